@@ -1,0 +1,85 @@
+-- One frame. "Order: 1, 2, 3, 8 for the given SP, then the record with the greatest start not above the pc. Packed: 4. Full: first word
+-- 5, Vers 4, extension word 5, its reserved byte 4, whole record 5, scope Res 4. If the pc is not below start + length, or no record
+-- starts at or below it, there is no covering record: the function is a leaf, only pc changes, 0 codes run. Otherwise 6, 7, 9, 10, then
+-- 8 as codes run, then 11."
+use Prim.Native.Nat.{ℕ, _-_, _%_, _^_}
+use mathlib.Core.List.{List}
+use mathlib.Core.Bool.{Bool, _&&_}
+use lib.ListN.{length}
+use lib.Dec.{leb, ltb, eqb}
+use Rattle.words.specs.Bits.{even}
+use Rattle.words.specs.Lent.{Lent, end}
+use Rattle.words.specs.declared.Place.{Place}
+use Rattle.words.specs.declared.Place.the-variants.{Leaf}
+use Rattle.words.specs.declared.Refusal.the-variants.{UnfitInput, BadStack, SpFell}
+use Rattle.words.specs.declared.Verdict.the-variants.{Given, Refused}
+use Rattle.unwinding.specs.Answer.{Res, ok, refuse, _>>=_, _>>_, need, if_then_else_, maybe}
+use Rattle.unwinding.specs.CodeList.{run}
+use Rattle.unwinding.specs.Shape.{Shape}
+use Rattle.unwinding.specs.View.{view}
+use Rattle.unwinding.specs.Todo.{todo}
+use Rattle.codes.specs.Code.{size, codesAt}
+use Rattle.machine.specs.declared.Regs.{Regs}
+use Rattle.machine.specs.Registers.{setPc}
+use Rattle.machine.specs.Step.{stands, step}
+use Rattle.tables.specs.declared.Entry.{Entry}
+use Rattle.tables.specs.Pdata.{find}
+use Rattle.tables.specs.Xdata.{fitXdata}
+use Rattle.tables.specs.Record.{shapeOf}
+use Rattle.frame.specs.declared.Unwound.{Unwound}
+
+-- what is lent beside the registers
+pub record Inputs : Type 0 where
+  pub image : ℕ
+  pub pdata : List ℕ
+  pub xdata : Lent
+  pub stack : Lent
+
+-- 1: "stack base or length not a multiple of 4; stack end above 2^32 - 4"
+abbrev pub fitStack : Lent → Bool
+fitStack k = eqb (k .base % 4) 0 && eqb (length (k .bytes) % 4) 0 && leb (end k) (2 ^ 32 - 4)
+
+-- "One frame's answer: registers, place, handler RVA (0 if none), and the number of codes run, end codes not counted"
+pub record Caller : Type 0 where
+  pub regs : Regs
+  pub place : Place
+  pub handler : ℕ
+  pub codes : ℕ
+
+-- "LR keeps its value; pc is LR with bit 0 cleared"
+abbrev pub returned : Regs → Regs
+returned g = setPc g (even (g .lr))
+
+abbrev pub leafOf : Regs → Caller
+leafOf g = record { regs = returned g; place = Leaf; handler = 0; codes = 0 }
+
+-- at an offset of a function that covers it: "6, 7, 9, 10, then 8 as codes run, then 11"
+unfoldable pub within : (stack : Lent) → Shape → (offset : ℕ) → Regs → Res Caller
+within k s o g = do
+  v ← view size codesAt s
+  t ← todo size v o
+  h ← run (step k) (t .codes) g
+  need (leb (g .sp) (h .sp)) SpFell
+  ok (record { regs = returned h; place = t .place; handler = s .handler; codes = length (t .codes) })
+
+-- by the record found, with what stands for a pc that it does not cover
+unfoldable pub byRecord : (uncovered : Res Caller) → Inputs → Entry → Regs → Res Caller
+byRecord uncovered t e g = do
+  s ← shapeOf (t .xdata) e
+  let o = even (g .pc) - t .image - e .start
+  if ltb o (s .span) then within (t .stack) s o g else uncovered
+
+unfoldable pub frameOr : (uncovered : Res Caller) → Inputs → Regs → Res Caller
+frameOr uncovered t g = do
+  need (fitStack (t .stack) && fitXdata (t .xdata)) UnfitInput
+  e ← find (t .image) (t .pdata) (g .pc)
+  need (stands (t .stack) (g .sp)) BadStack
+  maybe e uncovered (λ e. byRecord uncovered t e g)
+
+abbrev pub frame : Inputs → Regs → Res Caller
+frame t g = frameOr (ok (leafOf g)) t g
+
+-- the whole answer: "A refusal returns the given registers, 0 codes, handler 0 and place leaf"
+abbrev pub unwound : Regs → Res Caller → Unwound
+unwound g (ok c) = record { verdict = Given; regs = c .regs; place = c .place; handler = c .handler; codes = c .codes }
+unwound g (refuse r) = record { verdict = Refused r; regs = g; place = Leaf; handler = 0; codes = 0 }

@@ -1,0 +1,7 @@
+-- To unfold `opened` is to unfold every definition of this crate and of those below it: for examples that compute.
+use Rattle.codes.proofs.Opened as Below
+use Rattle.machine.specs.Step.{load, popReg, popD, pop, vpop, step}
+
+unfoldable pub opened : Unit {0}
+unfolding Below.opened load popReg popD pop vpop step
+opened = tt

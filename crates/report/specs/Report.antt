@@ -1,0 +1,69 @@
+-- The report file: 'Mark "WLK", version 1 (16 bits), 3 zero bytes; then 32-bit words: image base, .pdata records, xdata RVA, xdata bytes,
+-- stack base, stack bytes, r0-r12, SP, LR, pc; d0-d31; then .pdata, .xdata, stack, and nothing more. At most 65,536 bytes.'
+use Prim.Native.Nat.{ℕ, zero, suc, _+_, _*_}
+use mathlib.Core.List.{List, [], _∷_}
+use mathlib.Core.Bool.{Bool, true, false, _&&_}
+use lib.ListN.{length, take, drop}
+use lib.Dec.{leb, eqb}
+use Rattle.words.specs.Little.{word32, word64}
+use Rattle.words.specs.declared.Refusal.the-variants.{UnfitReport}
+use Rattle.unwinding.specs.Answer.{Res, ok, _>>=_, _>>_, need}
+use Rattle.machine.specs.declared.Regs.{Regs}
+use Rattle.frame.specs.Frame.{Inputs}
+
+pub record Report : Type 0 where
+  pub inputs : Inputs
+  pub regs : Regs
+
+abbrev pub same : List ℕ → List ℕ → Bool
+same [] [] = true
+same [] (b ∷ t) = false
+same (a ∷ s) [] = false
+same (a ∷ s) (b ∷ t) = eqb a b && same s t
+
+-- n words, or n double words, from a byte offset
+unfoldable pub words32 : List ℕ → (at n : ℕ) → List ℕ
+words32 s a zero = []
+words32 s a (suc n) = word32 s a ∷ words32 s (a + 4) n
+
+unfoldable pub words64 : List ℕ → (at n : ℕ) → List ℕ
+words64 s a zero = []
+words64 s a (suc n) = word64 s a ∷ words64 s (a + 8) n
+
+abbrev pub part : List ℕ → (at n : ℕ) → List ℕ
+part s a n = take n (drop a s)
+
+-- "WLK", version 1, three zero bytes
+abbrev pub mark : List ℕ
+mark = 0x57 ∷ 0x4C ∷ 0x4B ∷ 1 ∷ 0 ∷ 0 ∷ 0 ∷ 0 ∷ []
+
+-- the bytes before the .pdata: the mark, 22 words, 32 double words
+abbrev pub headBytes : ℕ
+headBytes = 8 + 4 * 22 + 8 * 32
+
+abbrev pub pdataBytes : List ℕ → ℕ
+pdataBytes s = 8 * word32 s 12
+
+abbrev pub xdataBytes : List ℕ → ℕ
+xdataBytes s = word32 s 20
+
+abbrev pub stackSize : List ℕ → ℕ
+stackSize s = word32 s 28
+
+-- the parts of a report whose lengths fit
+abbrev pub inputsOf : List ℕ → Inputs
+inputsOf s =
+    let x : ℕ = headBytes + pdataBytes s in
+    let k : ℕ = x + xdataBytes s in
+    record { image = word32 s 8; pdata = part s headBytes (pdataBytes s); xdata = record { base = word32 s 16; bytes = part s x (xdataBytes s) }; stack = record { base = word32 s 24; bytes = part s k (stackSize s) } }
+
+abbrev pub regsOf : List ℕ → Regs
+regsOf s = record { r = words32 s 32 13; sp = word32 s 84; lr = word32 s 88; pc = word32 s 92; d = words64 s 96 32 }
+
+-- a report, or 14
+unfoldable pub report : List ℕ → Res Report
+report s = do
+  need (leb headBytes (length s) && leb (length s) 65536) UnfitReport
+  need (same (take 8 s) mark) UnfitReport
+  need (eqb (length s) (headBytes + pdataBytes s + xdataBytes s + stackSize s)) UnfitReport
+  ok (record { inputs = inputsOf s; regs = regsOf s })

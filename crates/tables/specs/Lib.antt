@@ -1,0 +1,5 @@
+pub mod Pdata
+pub mod Packed
+pub mod PackedCodes
+pub mod Xdata
+pub mod Record

@@ -1,0 +1,62 @@
+// The unwind tables: .pdata records and the record for a pc, packed words and their code bytes, .xdata records. It knows neither
+// registers nor the stack.
+use words::CodeBytes;
+use words::Halfwords;
+use words::Refusal;
+use words::Verdict;
+
+// A .pdata record: its number in the table, its start RVA with bit 0 cleared, and its word 1.
+pub struct Entry {
+    pub number: usize,
+    pub start: u32,
+    pub word: u32,
+}
+
+// The record for a pc.
+pub enum Found {
+    Record(Entry),
+    Nothing,
+    Refused(Refusal),
+}
+
+// The fields of a packed word, as document 01 names them: Flag, length/2, Ret, H, Reg, R, L, C, Stack Adjust.
+pub struct Packed {
+    pub flag: u32,
+    pub length: Halfwords,
+    pub ret: u32,
+    pub h: u32,
+    pub reg: u32,
+    pub r: u32,
+    pub l: u32,
+    pub c: u32,
+    pub adjust: u32,
+}
+
+// A packed word; 0 where it is refused.
+pub struct WordOf {
+    pub verdict: Verdict,
+    pub word: u32,
+}
+
+// A packed record's code bytes, first list, second list, the rest 0, and both lengths; all 0 where it is refused.
+pub struct CodesOf {
+    pub verdict: Verdict,
+    pub bytes: [u8; 16],
+    pub first: CodeBytes,
+    pub second: CodeBytes,
+}
+
+// The head of an .xdata record: its first word, its own bytes (4, or 8 with the extension word), and the count and the code words from
+// the one or the other.
+pub struct Head {
+    pub word: u32,
+    pub bytes: u32,
+    pub count: u32,
+    pub codewords: u32,
+}
+
+// An .xdata record's size in bytes; 0 where it is refused.
+pub struct SizeOf {
+    pub verdict: Verdict,
+    pub bytes: u32,
+}

@@ -1,0 +1,5 @@
+pub mod Answer
+pub mod CodeList
+pub mod Shape
+pub mod View
+pub mod Todo

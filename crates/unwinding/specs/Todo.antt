@@ -1,0 +1,44 @@
+-- Where an offset stands in a record, and which codes are left to undo there.
+-- "Body: run from index 0. Prologue (pc below the sum of sizes from index 0): skip codes of instructions not yet done, run the rest.
+-- Epilogue: from its index, skip codes of instructions done, run the rest."
+use Prim.Native.Nat.{ℕ, _+_, _-_}
+use mathlib.Core.List.{List, [], _∷_}
+use mathlib.Core.Bool.{_&&_}
+use lib.Dec.{leb, ltb, eqb}
+use Rattle.words.specs.declared.Place.{Place}
+use Rattle.words.specs.declared.Place.the-variants.{Prologue, Body, Epilogue}
+use Rattle.words.specs.declared.Refusal.the-variants.{InsideInstruction, Conditional}
+use Rattle.unwinding.specs.Answer.{Res, ok, refuse, _>>=_, _>>_, need, if_then_else_, maybe}
+use Rattle.unwinding.specs.CodeList.{Codes, endOf}
+use Rattle.unwinding.specs.View.{Exit, View}
+
+pub record Todo (C : Type 0) : Type 0 where
+  pub place : Place
+  pub codes : List C
+
+-- the condition "always"
+abbrev pub always : ℕ
+always = 0xE
+
+module _ {C : Type 0} (size : C → ℕ) where
+  -- the codes whose instructions, with `after` bytes behind them, take n bytes; 9 where n ends inside an instruction
+  unfoldable pub left : Place → (after n : ℕ) → List C → Res (Todo C)
+  left p after n cs = maybe (endOf size after n cs) (refuse InsideInstruction) (λ l. ok (record { place = p; codes = l }))
+
+  -- inside an epilogue, which must be unconditional: 9 before 10
+  unfoldable pub inExit : Exit C → (offset : ℕ) → Res (Todo C)
+  inExit e o = do
+    t ← left Epilogue (e .codes .endSize) (e .start + e .size - o) (e .codes .list)
+    need (eqb (e .condition) always) Conditional
+    ok t
+
+  -- in the epilogue that the offset falls into, else in the body
+  unfoldable pub inExits : List (Exit C) → (offset : ℕ) → (body : List C) → Res (Todo C)
+  inExits [] o cs = ok (record { place = Body; codes = cs })
+  inExits (e ∷ es) o cs =
+      let further = inExits es o cs in
+      if leb (e .start) o && ltb o (e .start + e .size) then inExit e o else further
+
+  unfoldable pub todo : View C → (offset : ℕ) → Res (Todo C)
+  todo v o =
+      if ltb o (v .prologue) then left Prologue 0 o (v .codes .list) else inExits (v .exits) o (v .codes .list)

@@ -1,0 +1,7 @@
+-- To unfold `opened` is to unfold every definition of this crate and of those below it: for examples that compute.
+use Rattle.frame.proofs.Opened as Below
+use Rattle.walking.specs.Walk.{laterFrame, walkFrom}
+
+unfoldable pub opened : Unit {0}
+unfolding Below.opened laterFrame walkFrom
+opened = tt

@@ -1,0 +1,60 @@
+-- The walk. "It fills a lent list of frame records: pc, SP, place, one per frame that unwound. Before each frame, a full list stops it
+-- (also for length 0). A caller's pc 0 ends it (before full). A refusal stops it with number and the frame's pc. The answer adds the
+-- frame count and the sum of codes run in those frames. Other records stay as lent."
+use Prim.Native.Nat.{ℕ, zero, suc, _+_}
+use mathlib.Core.List.{List, [], _∷_, _++_}
+use mathlib.Core.Bool.{Bool, true, false, not}
+use lib.ListN.{length, drop}
+use lib.Dec.{eqb}
+use Rattle.words.specs.Bits.{even}
+use Rattle.words.specs.declared.Refusal.the-variants.{NoRecord, SpSame}
+use Rattle.unwinding.specs.Answer.{Res, ok, refuse, _>>=_, _>>_, need, if_then_else_, either}
+use Rattle.machine.specs.declared.Regs.{Regs}
+use Rattle.frame.specs.Frame.{Inputs, Caller, frame, frameOr}
+use Rattle.walking.specs.declared.Frame.{Frame}
+use Rattle.walking.specs.declared.Stop.{Stop}
+use Rattle.walking.specs.declared.Stop.the-variants.{End, Full, Refused}
+use Rattle.walking.specs.declared.Walked.{Walked}
+
+-- 12: "a frame after the first has no covering record"; 13: "a frame after the first leaves SP the same"
+unfoldable pub laterFrame : Inputs → Regs → Res Caller
+laterFrame t g = do
+  c ← frameOr (refuse NoRecord) t g
+  need (not (eqb (c .regs .sp) (g .sp))) SpSame
+  ok c
+
+abbrev pub nextFrame : (first : Bool) → Inputs → Regs → Res Caller
+nextFrame true t g = frame t g
+nextFrame false t g = laterFrame t g
+
+-- the frames listed, the stop, the sum of codes
+pub record Trail : Type 0 where
+  pub frames : List Frame
+  pub stop : Stop
+  pub codes : ℕ
+
+abbrev pub stopped : Stop → Trail
+stopped s = record { frames = []; stop = s; codes = 0 }
+
+abbrev pub listed : Regs → Caller → Trail → Trail
+listed g c w =
+    record { frames = record { pc = even (g .pc); sp = g .sp; place = c .place } ∷ w .frames; stop = w .stop; codes = c .codes + w .codes }
+
+-- the walk from these registers, with room for so many more records
+unfoldable pub walkFrom : Inputs → (room : ℕ) → (first : Bool) → Regs → Trail
+walkFrom t zero first g = stopped Full
+walkFrom t (suc n) first g =
+    either
+    (nextFrame first t g)
+    (λ r. stopped (Refused r (even (g .pc))))
+    (λ c. let more = walkFrom t n false (c .regs) in listed g c (if eqb (c .regs .pc) 0 then stopped End else more))
+
+abbrev pub walk : Inputs → (room : ℕ) → Regs → Trail
+walk t room g = walkFrom t room true g
+
+-- the answer, and the lent list as the walk leaves it
+abbrev pub walked : Trail → Walked
+walked w = record { stop = w .stop; frames = length (w .frames); codes = w .codes }
+
+abbrev pub filled : List Frame → Trail → List Frame
+filled lent w = w .frames ++ drop (length (w .frames)) lent

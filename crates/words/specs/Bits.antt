@@ -1,0 +1,15 @@
+-- Bit fields of a number.
+use Prim.Native.Nat.{ℕ, _-_, _/_, _%_, _^_}
+use mathlib.Core.Bool.{Bool}
+use lib.Dec.{eqb}
+
+-- `width` bits of w from bit `low` up
+abbrev pub bits : (low width : ℕ) → ℕ → ℕ
+bits low width w = w / 2 ^ low % 2 ^ width
+
+abbrev pub bit : ℕ → ℕ → Bool
+bit k w = eqb (bits k 1 w) 1
+
+-- "Bit 0 of pc and of a function start is read as 0"
+abbrev pub even : ℕ → ℕ
+even a = a - a % 2

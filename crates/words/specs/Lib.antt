@@ -1,0 +1,5 @@
+pub mod Bits
+pub mod Little
+pub mod Lent
+pub mod Units
+pub mod Refusals

@@ -1,0 +1,203 @@
+// The vocabulary of document 01 that every other crate speaks: the three units, the refusals, the places; little-endian words of lent
+// bytes. It knows bytes, words and numbers, and neither records nor registers. No function asks anything of its caller.
+ghost use mathlib.Core.Path.{_≡_};
+ghost use Prim.Native.Nat.{_+_, _<_};
+ghost use lib.ListN.{length, getD};
+ghost use Rattle.words.specs.Bits.{even as evenOf};
+ghost use Rattle.words.specs.Little.{word16 as word16Of, word32 as word32Of, word64 as word64Of};
+ghost use Rattle.words.specs.Lent.{Lent, lent, holds as holdsOf, wordAt};
+ghost use Rattle.words.specs.Units.{halfwordBytes, stackBytes, codeWordBytes};
+ghost use Rattle.words.specs.Refusals.{number as numberOf, verdictNumber};
+
+// Function lengths and instruction sizes are in halfwords.
+pub struct Halfwords(pub u32);
+
+// Code indices and the lengths of code lists are in bytes.
+pub struct CodeBytes(pub usize);
+
+// Stack amounts are in words.
+pub struct StackWords(pub u32);
+
+// A refusal is given exactly when its line says so.
+pub enum Refusal {
+    // 1: .pdata length not a multiple of 8; stack base or length, or xdata RVA, not a multiple of 4; stack end above 2^32 - 4; xdata end
+    // above 2^32
+    UnfitInput,
+    // 2: pc below image base
+    PcBelowBase,
+    // 3: .pdata starts not strictly ascending
+    StartsNotAscending,
+    // 4: Flag 3, Vers not 0, scope Res not 0, reserved byte of the extension word not 0; a packed word that cannot be
+    Reserved,
+    // 5: xdata record not wholly inside the lent .xdata
+    OutsideXdata,
+    // 6: from index 0 or an epilogue's index: index past the code bytes, an undefined code, or no end code before the bytes run out. It
+    // holds the undefined code's index, the index that is past the bytes, or the number of bytes where they run out
+    BadCodes(CodeBytes),
+    // 7: prologue or an epilogue not wholly inside the function; scope starts not strictly ascending; an epilogue shares a halfword with
+    // another or with the prologue
+    BadLayout,
+    // 8: SP at the start, or after a code, not a multiple of 4 or outside base..end (end allowed); a loaded word outside
+    BadStack,
+    // 9: pc inside an instruction of the prologue or of an epilogue
+    InsideInstruction,
+    // 10: pc in an epilogue whose condition is not 0xE
+    Conditional,
+    // 11: caller's SP below the given SP
+    SpFell,
+    // 12: walk only: a frame after the first has no covering record
+    NoRecord,
+    // 13: walk only: a frame after the first leaves SP the same
+    SpSame,
+    // 14: report file unfit (program only)
+    UnfitReport,
+}
+
+// Whether an operation gave its answer.
+pub enum Verdict {
+    Given,
+    Refused(Refusal),
+}
+
+// Where a pc stands in its function.
+pub enum Place {
+    Leaf,
+    Prologue,
+    Body,
+    Epilogue,
+}
+
+// A byte as a word, with its range.
+fn wide(b: u8) -> u32
+    ensures { λ r. ⌜ (r ≡ b) × (r < 256) ⌝ }
+{
+    b as u32
+}
+
+// The byte k places after a place of the slice; 0 where there is none.
+fn byte_after(s: &[u8], at: usize, k: usize) -> u32
+    ensures { λ r. ⌜ (r ≡ getD (now (s .entry)) (at + k) 0) × (r < 256) ⌝ }
+{
+    if s.len() <= at {
+        return 0;
+    }
+    if s.len() - at <= k {
+        return 0;
+    }
+    wide(s[at + k])
+}
+
+// The word k places, a few, after a place of the slice.
+fn word32_after(s: &[u8], at: usize, k: usize) -> u32
+    requires { ⌜ k < 8 ⌝ }
+    ensures { λ r. ⌜ r ≡ word32Of (now (s .entry)) (at + k) ⌝ }
+{
+    byte_after(s, at, k)
+        + 256 * byte_after(s, at, k + 1)
+        + 65536 * byte_after(s, at, k + 2)
+        + 16777216 * byte_after(s, at, k + 3)
+}
+
+// The little-endian words at an offset. Whoever takes one for a word of the input has tested that its bytes are there.
+pub fn word16(s: &[u8], at: usize) -> u32
+    ensures { λ r. ⌜ (r ≡ word16Of (now (s .entry)) at) × (r < 65536) ⌝ }
+{
+    byte_after(s, at, 0) + 256 * byte_after(s, at, 1)
+}
+
+pub fn word32(s: &[u8], at: usize) -> u32
+    ensures { λ r. ⌜ r ≡ word32Of (now (s .entry)) at ⌝ }
+{
+    word32_after(s, at, 0)
+}
+
+pub fn word64(s: &[u8], at: usize) -> u64
+    ensures { λ r. ⌜ r ≡ word64Of (now (s .entry)) at ⌝ }
+{
+    (word32_after(s, at, 0) as u64) + 4294967296 * (word32_after(s, at, 4) as u64)
+}
+
+// Whether n bytes from an address are lent, of `len` bytes from `base` up.
+pub fn holds(base: u32, s: &[u8], at: u64, n: u64) -> bool
+    ensures { λ r. ⌜ r ≡ holdsOf (lent base (now (s .entry))) at n ⌝ }
+{
+    let low = base as u64;
+    let len = s.len() as u64;
+    if at < low {
+        return false;
+    }
+    if len < at - low {
+        return false;
+    }
+    n <= len - (at - low)
+}
+
+// The word at an address of lent bytes.
+pub fn word_at(base: u32, s: &[u8], at: u64) -> u32
+    ensures { λ r. ⌜ r ≡ wordAt (lent base (now (s .entry))) at ⌝ }
+{
+    let low = base as u64;
+    if at < low {
+        return word32(s, 0);
+    }
+    word32(s, (at - low) as usize)
+}
+
+// An address with bit 0 cleared.
+pub fn even(a: u32) -> u32
+    ensures { λ r. ⌜ r ≡ evenOf a ⌝ }
+{
+    a - a % 2
+}
+
+// The named conversions to bytes.
+pub fn halfword_bytes(h: Halfwords) -> u64
+    ensures { λ r. ⌜ (r ≡ halfwordBytes h) × (r < 8589934592) ⌝ }
+{
+    2 * (h.0 as u64)
+}
+
+pub fn stack_bytes(w: StackWords) -> u64
+    ensures { λ r. ⌜ (r ≡ stackBytes w) × (r < 17179869184) ⌝ }
+{
+    4 * (w.0 as u64)
+}
+
+// Code words of a record's head, of which there are at most 255, as code bytes.
+pub fn code_word_bytes(n: u32) -> CodeBytes
+    ensures { λ r. ⌜ r ≡ codeWordBytes n ⌝ }
+{
+    CodeBytes(4 * (n as usize))
+}
+
+// Document 01's number of a refusal.
+pub fn number(r: Refusal) -> u32
+    ensures { λ n. ⌜ n ≡ numberOf r ⌝ }
+{
+    match r {
+        Refusal::UnfitInput => 1,
+        Refusal::PcBelowBase => 2,
+        Refusal::StartsNotAscending => 3,
+        Refusal::Reserved => 4,
+        Refusal::OutsideXdata => 5,
+        Refusal::BadCodes(_) => 6,
+        Refusal::BadLayout => 7,
+        Refusal::BadStack => 8,
+        Refusal::InsideInstruction => 9,
+        Refusal::Conditional => 10,
+        Refusal::SpFell => 11,
+        Refusal::NoRecord => 12,
+        Refusal::SpSame => 13,
+        Refusal::UnfitReport => 14,
+    }
+}
+
+// The number of a verdict: 0 where nothing is refused.
+pub fn verdict_number(v: Verdict) -> u32
+    ensures { λ n. ⌜ n ≡ verdictNumber v ⌝ }
+{
+    match v {
+        Verdict::Given => 0,
+        Verdict::Refused(r) => number(r),
+    }
+}
