@@ -1,2 +1,3 @@
 pub mod Registers
 pub mod Step
+pub mod Run

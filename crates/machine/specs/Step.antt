@@ -1,7 +1,7 @@
 -- What one code does to the registers, over the lent stack, with refusal 8.
 use Prim.Native.Nat.{ℕ, zero, suc, _+_, _-_, _*_, _%_, _^_}
 use mathlib.Core.Bool.{Bool, _&&_}
-use lib.Dec.{leb, eqb}
+use lib.Dec.{leb, ltb, eqb}
 use Rattle.words.specs.Bits.{bit}
 use Rattle.words.specs.Lent.{Lent, end, holds, wordAt}
 use Rattle.words.specs.Units.{stackBytes}
@@ -13,9 +13,9 @@ use Rattle.codes.specs.declared.Undo.the-variants.{Up, Pop, SpFrom, Vpop, LoadL
 use Rattle.machine.specs.Registers.{reg, setReg, setD, setSp}
 use Rattle.machine.specs.declared.Regs.{Regs}
 
--- SP may stand here: "a multiple of 4", not "outside base..end (end allowed)"
+-- SP may stand here: "a multiple of 4", not "outside base..end (end allowed)". An address has 32 bits, which a stack that passed 1 implies
 abbrev pub stands : Lent → ℕ → Bool
-stands k a = eqb (a % 4) 0 && leb (k .base) a && leb a (end k)
+stands k a = eqb (a % 4) 0 && leb (k .base) a && leb a (end k) && ltb a (2 ^ 32)
 
 -- the word at an address: "a loaded word outside" is 8
 unfoldable pub load : Lent → ℕ → Res ℕ
