@@ -31,14 +31,8 @@ use Rattle.report.specs.Report.{report, mark}
 use Rattle.report.specs.Listing.{listing}
 use Rattle.report.specs.Text.{text}
 use Rattle.report.proofs.Opened.{opened}
-use Rattle.demands.proofs.Bytes.{bytesOf}
-
--- the place of an offset in a record, and the codes that run there
-abbrev at : Res Shape → ℕ → Res (Todo Code)
-at s o = s >>= λ s. view size codesAt s >>= λ v. todo size v o
-
-abbrev says : Place → List Code → Res (Todo Code)
-says p l = ok (record { place = p; codes = l })
+use Rattle.words.proofs.Bytes.{bytesOf}
+use Rattle.tables.proofs.At.{at, says}
 
 -- "Packed 0x00910041: push {r4,r5,lr}; sub sp,#8. Both lists 02 D5 FF. Length 32, epilogue at 0x1C."
 abbrev c02 : Code

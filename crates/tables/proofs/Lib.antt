@@ -1,1 +1,4 @@
 pub mod Opened
+pub mod At
+pub mod Page
+pub mod Order

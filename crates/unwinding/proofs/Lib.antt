@@ -1,3 +1,5 @@
 pub mod Opened
 pub mod Running
 pub mod Ends
+pub mod Places
+pub mod Toy
