@@ -55,6 +55,10 @@ eight-leaf : refusal (inputs 0x00910041 [] 0x20000) (regs 0x409002 0x20024 0) �
 unfolding opened
 eight-leaf = refl
 
+eight-no-record : refusal (inputs 0x00910041 [] 0x20000) (regs 0x400002 0x20024 0) ≡ 8
+unfolding opened
+eight-no-record = refl
+
 -- 4 and 5 before the cover test, 6 and 7 after it
 four-far : refusal (inputs 0x00910043 [] 0x20000) (regs 0x409002 0x20000 0) ≡ 4
 unfolding opened

@@ -128,3 +128,15 @@ order-6-7 = refl
 order-7-9 : at (shape false (scope (From 32) always 0 ∷ [])) 4 ≡ refuse BadLayout
 unfolding opened
 order-7-9 = refl
+
+-- 6 of a scope before 7 of the prologue, which is longer than the function; of two bad scopes the first
+abbrev short : List Scope → Shape
+short ss = record { span = 4; codes = 2 ∷ 4 ∷ 2 ∷ []; fragment = false; scopes = ss; handler = 0 }
+
+order-7-prologue : at (short []) 2 ≡ refuse BadLayout
+unfolding opened
+order-7-prologue = refl
+
+order-6-prologue : at (short (scope (From 0) always 8 ∷ scope (From 0) always 9 ∷ [])) 2 ≡ refuse (BadCodes (codeBytes 8))
+unfolding opened
+order-6-prologue = refl
