@@ -3,30 +3,31 @@
 -- starts at or below it, there is no covering record: the function is a leaf, only pc changes, 0 codes run. Otherwise 6, 7, 9, 10, then
 -- 8 as codes run, then 11."
 use Prim.Native.Nat.{ℕ, _-_, _%_, _^_}
-use mathlib.Core.List.{List}
-use mathlib.Core.Bool.{Bool, _&&_}
+use mathlib.Core.List.{List, map}
+use mathlib.Core.Bool.{Bool, true, false, _&&_}
 use lib.ListN.{length}
 use lib.Dec.{leb, ltb, eqb}
 use Rattle.words.specs.Bits.{even}
-use Rattle.words.specs.Lent.{Lent, end}
+use Rattle.words.specs.Lent.{Lent, lent, end}
 use Rattle.words.specs.declared.Place.{Place}
 use Rattle.words.specs.declared.Place.the-variants.{Leaf}
-use Rattle.words.specs.declared.Refusal.the-variants.{UnfitInput, BadStack, SpFell}
+use Rattle.words.specs.declared.Refusal.the-variants.{UnfitInput, BadStack, SpFell, NoRecord}
 use Rattle.words.specs.declared.Verdict.the-variants.{Given, Refused}
 use Rattle.unwinding.specs.Answer.{Res, ok, refuse, _>>=_, _>>_, need, if_then_else_, maybe}
 use Rattle.unwinding.specs.CodeList.{run}
 use Rattle.unwinding.specs.Shape.{Shape}
-use Rattle.unwinding.specs.View.{view}
+use Rattle.unwinding.specs.View.{ascending, view}
 use Rattle.unwinding.specs.Todo.{todo}
 use Rattle.codes.specs.Code.{size, codesAt}
 use Rattle.machine.specs.declared.Regs.{Regs}
 use Rattle.machine.specs.Registers.{setPc}
 use Rattle.machine.specs.Step.{stands, step}
 use Rattle.tables.specs.declared.Entry.{Entry}
-use Rattle.tables.specs.Pdata.{find}
+use Rattle.tables.specs.Pdata.{entries, find}
 use Rattle.tables.specs.Xdata.{fitXdata}
 use Rattle.tables.specs.Record.{shapeOf}
 use Rattle.frame.specs.declared.Unwound.{Unwound}
+use Rattle.frame.specs.declared.Checked.{Checked}
 
 -- what is lent beside the registers
 pub record Inputs : Type 0 where
@@ -34,6 +35,9 @@ pub record Inputs : Type 0 where
   pub pdata : List ℕ
   pub xdata : Lent
   pub stack : Lent
+
+abbrev pub inputs : (image : ℕ) → (pdata : List ℕ) → (rva : ℕ) → (xdata : List ℕ) → (base : ℕ) → (stack : List ℕ) → Inputs
+inputs i p r x b k = record { image = i; pdata = p; xdata = lent r x; stack = lent b k }
 
 -- 1: "stack base or length not a multiple of 4; stack end above 2^32 - 4"
 abbrev pub fitStack : Lent → Bool
@@ -53,6 +57,11 @@ returned g = setPc g (even (g .lr))
 abbrev pub leafOf : Regs → Caller
 leafOf g = record { regs = returned g; place = Leaf; handler = 0; codes = 0 }
 
+-- "If … there is no covering record (12 in a walk's later frame): the function is a leaf"
+abbrev pub uncovered : (first : Bool) → Regs → Res Caller
+uncovered true g = ok (leafOf g)
+uncovered false g = refuse NoRecord
+
 -- at an offset of a function that covers it: "6, 7, 9, 10, then 8 as codes run, then 11"
 unfoldable pub within : (stack : Lent) → Shape → (offset : ℕ) → Regs → Res Caller
 within k s o g = do
@@ -62,24 +71,30 @@ within k s o g = do
   need (leb (g .sp) (h .sp)) SpFell
   ok (record { regs = returned h; place = t .place; handler = s .handler; codes = length (t .codes) })
 
--- by the record found, with what stands for a pc that it does not cover
-unfoldable pub byRecord : (uncovered : Res Caller) → Inputs → Entry → Regs → Res Caller
-byRecord uncovered t e g = do
+-- by the record found
+unfoldable pub byRecord : (first : Bool) → Inputs → Entry → Regs → Res Caller
+byRecord first t e g = do
   s ← shapeOf (t .xdata) e
   let o = even (g .pc) - t .image - e .start
-  if ltb o (s .span) then within (t .stack) s o g else uncovered
+  if ltb o (s .span) then within (t .stack) s o g else uncovered first g
 
-unfoldable pub frameOr : (uncovered : Res Caller) → Inputs → Regs → Res Caller
-frameOr uncovered t g = do
+-- the frame, first of a walk (as one by itself is) or later
+unfoldable pub frameOf : (first : Bool) → Inputs → Regs → Res Caller
+frameOf first t g = do
   need (fitStack (t .stack) && fitXdata (t .xdata)) UnfitInput
   e ← find (t .image) (t .pdata) (g .pc)
   need (stands (t .stack) (g .sp)) BadStack
-  maybe e uncovered (λ e. byRecord uncovered t e g)
+  maybe e (uncovered first g) (λ e. byRecord first t e g)
 
 abbrev pub frame : Inputs → Regs → Res Caller
-frame t g = frameOr (ok (leafOf g)) t g
+frame t g = frameOf true t g
 
 -- the whole answer: "A refusal returns the given registers, 0 codes, handler 0 and place leaf"
 abbrev pub unwound : Regs → Res Caller → Unwound
 unwound g (ok c) = record { verdict = Given; regs = c .regs; place = c .place; handler = c .handler; codes = c .codes }
 unwound g (refuse r) = record { verdict = Refused r; regs = g; place = Leaf; handler = 0; codes = 0 }
+
+-- the checks that read the tables alone, 1 and 3: a walk makes them once
+abbrev pub checked : Inputs → Checked
+checked t =
+    record { fit = fitStack (t .stack) && fitXdata (t .xdata) && eqb (length (t .pdata) % 8) 0; sorted = ascending (map (λ e. e .start) (entries (t .pdata))) }

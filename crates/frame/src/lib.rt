@@ -12,3 +12,9 @@ pub struct Unwound {
     pub handler: u32,
     pub codes: usize,
 }
+
+// What the tables alone show: whether refusal 1 is not given for any input, and refusal 3 not for the .pdata.
+pub struct Checked {
+    pub fit: bool,
+    pub sorted: bool,
+}

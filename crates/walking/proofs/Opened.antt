@@ -1,7 +1,7 @@
 -- To unfold `opened` is to unfold every definition of this crate and of those below it: for examples that compute.
 use Rattle.frame.proofs.Opened as Below
-use Rattle.walking.specs.Walk.{laterFrame, walkFrom}
+use Rattle.walking.specs.Walk.{nextFrame, walkFrom}
 
 unfoldable pub opened : Unit {0}
-unfolding Below.opened laterFrame walkFrom
+unfolding Below.opened nextFrame walkFrom
 opened = tt

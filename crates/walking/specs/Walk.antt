@@ -3,29 +3,25 @@
 -- frame count and the sum of codes run in those frames. Other records stay as lent."
 use Prim.Native.Nat.{ℕ, zero, suc, _+_}
 use mathlib.Core.List.{List, [], _∷_, _++_}
-use mathlib.Core.Bool.{Bool, true, false, not}
+use mathlib.Core.Bool.{Bool, true, false, _||_, not}
 use lib.ListN.{length, drop}
 use lib.Dec.{eqb}
 use Rattle.words.specs.Bits.{even}
-use Rattle.words.specs.declared.Refusal.the-variants.{NoRecord, SpSame}
-use Rattle.unwinding.specs.Answer.{Res, ok, refuse, _>>=_, _>>_, need, if_then_else_, either}
+use Rattle.words.specs.declared.Refusal.the-variants.{SpSame}
+use Rattle.unwinding.specs.Answer.{Res, ok, _>>=_, _>>_, need, if_then_else_, either}
 use Rattle.machine.specs.declared.Regs.{Regs}
-use Rattle.frame.specs.Frame.{Inputs, Caller, frame, frameOr}
+use Rattle.frame.specs.Frame.{Inputs, Caller, frameOf}
 use Rattle.walking.specs.declared.Frame.{Frame}
 use Rattle.walking.specs.declared.Stop.{Stop}
 use Rattle.walking.specs.declared.Stop.the-variants.{End, Full, Refused}
 use Rattle.walking.specs.declared.Walked.{Walked}
 
--- 12: "a frame after the first has no covering record"; 13: "a frame after the first leaves SP the same"
-unfoldable pub laterFrame : Inputs → Regs → Res Caller
-laterFrame t g = do
-  c ← frameOr (refuse NoRecord) t g
-  need (not (eqb (c .regs .sp) (g .sp))) SpSame
+-- 13: "a frame after the first leaves SP the same" (12 is in `frameOf`)
+unfoldable pub nextFrame : (first : Bool) → Inputs → Regs → Res Caller
+nextFrame first t g = do
+  c ← frameOf first t g
+  need (first || not (eqb (c .regs .sp) (g .sp))) SpSame
   ok c
-
-abbrev pub nextFrame : (first : Bool) → Inputs → Regs → Res Caller
-nextFrame true t g = frame t g
-nextFrame false t g = laterFrame t g
 
 -- the frames listed, the stop, the sum of codes
 pub record Trail : Type 0 where
