@@ -2,4 +2,5 @@ pub mod Opened
 pub mod Running
 pub mod Ends
 pub mod Places
+pub mod Lined
 pub mod Toy
