@@ -1,3 +1,5 @@
 pub mod Opened
+pub mod Entries
 pub mod Rows
+pub mod Meanings
 pub mod Scanning
