@@ -2,4 +2,6 @@ pub mod Opened
 pub mod Entries
 pub mod Rows
 pub mod Meanings
+pub mod Values
+pub mod Taking
 pub mod Scanning

@@ -10,9 +10,10 @@ ghost use Prim.Native.Nat.{_+_, _≤_, _<_};
 ghost use lib.ListN.{length, take, drop};
 ghost use mathlib.Core.Bool.{_||_};
 ghost use lib.Dec.{leb, eqb};
-ghost use Rattle.words.specs.Units.{stackWords};
+ghost use Rattle.words.specs.Units.{codeBytes, stackWords};
 ghost use Rattle.unwinding.specs.Answer.{if_then_else_};
 ghost use Rattle.codes.specs.Table.{rowOf, range, lrIf};
+ghost use Rattle.codes.specs.Code.{value as valueOf, taken as takenOf, takeAt};
 
 // What a code undoes. Bit k of a list of registers stands for rk, bit 14 for LR.
 pub enum Undo {
@@ -148,4 +149,48 @@ pub fn means(b: u8, v: u32) -> Meaning
         0xFD | 0xFE | 0xFF => Meaning::End,
         _ => Meaning::Undefined,
     }
+}
+
+// The n bytes from a place as one number, later bytes lower.
+fn value(codes: &[u8], at: usize, n: usize) -> u32
+    requires { ⌜ (at + n ≤ length (now codes)) × (n ≤ 4) ⌝ }
+    ensures { λ r. ⌜ r ≡ valueOf (take n (drop at (now (codes .entry)))) 0 ⌝ }
+{
+    let mut v: u32 = 0;
+    let mut k: usize = 0;
+    while k < n {
+        v = 256 * v + codes[at + k] as u32;
+        k += 1;
+    }
+    v
+}
+
+// The code at an index, by its first byte and its value; `next` is the index of what follows it.
+fn take_as(b: u8, v: u32, at: CodeBytes, next: CodeBytes) -> Taken
+    requires { ⌜ next ≡ codeBytes (at .0 + rowOf b .bytes) ⌝ }
+    ensures { λ r. ⌜ r ≡ takenOf (at .0) (rowOf b) (rowOf b .means v) ⌝ }
+{
+    let m = means(b, v);
+    let size = instruction_size(b);
+    match m {
+        Meaning::Does(undo) => Taken::One(Code { undo, size }, next),
+        Meaning::End => Taken::Last(size),
+        Meaning::Undefined => Taken::Bad(at),
+    }
+}
+
+// The code at an index of the code bytes.
+pub fn take_at(codes: &[u8], at: CodeBytes) -> Taken
+    ensures { λ r. ⌜ r ≡ takeAt (now (codes .entry)) at ⌝ }
+{
+    let i = at.0;
+    if codes.len() <= i {
+        return Taken::Bad(at);
+    }
+    let b = codes[i];
+    let n = code_bytes(b);
+    if codes.len() - i < n {
+        return Taken::Bad(CodeBytes(codes.len()));
+    }
+    take_as(b, value(codes, i, n), at, CodeBytes(i + n))
 }
