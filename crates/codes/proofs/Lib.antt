@@ -5,3 +5,6 @@ pub mod Meanings
 pub mod Values
 pub mod Taking
 pub mod Scanning
+pub mod Sizes
+pub mod Skipping
+pub mod SkipEnds

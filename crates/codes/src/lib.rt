@@ -4,7 +4,9 @@ mod table;
 
 use words::CodeBytes;
 use words::Halfwords;
+use words::Refusal;
 use words::StackWords;
+use words::halfword_bytes;
 ghost use mathlib.Core.Path.{_≡_};
 ghost use Prim.Native.Nat.{_+_, _≤_, _<_};
 ghost use lib.ListN.{length, take, drop};
@@ -14,6 +16,8 @@ ghost use Rattle.words.specs.Units.{codeBytes, stackWords};
 ghost use Rattle.unwinding.specs.Answer.{if_then_else_};
 ghost use Rattle.codes.specs.Table.{rowOf, range, lrIf};
 ghost use Rattle.codes.specs.Code.{value as valueOf, taken as takenOf, takeAt};
+ghost use Rattle.codes.specs.Reading.{turn, soFar, more};
+ghost use Rattle.codes.specs.Skip.{skipAt};
 
 // What a code undoes. Bit k of a list of registers stands for rk, bit 14 for LR.
 pub enum Undo {
@@ -193,4 +197,78 @@ pub fn take_at(codes: &[u8], at: CodeBytes) -> Taken
         return Taken::Bad(CodeBytes(codes.len()));
     }
     take_as(b, value(codes, i, n), at, CodeBytes(i + n))
+}
+
+// What a pass over a code list finds.
+pub enum Scanned {
+    // the halfwords of the list's instructions, and of its end code's instruction
+    Ends(u64, u64),
+    Refused(Refusal),
+}
+
+// A turn of a pass: whether there is more to take, and what is found so far.
+struct Turn {
+    on: bool,
+    found: Scanned,
+}
+
+// Adds what was taken to a pass.
+fn add(s: Scanned, t: Taken) -> Turn
+    requires { ⌜ soFar s + more t < 18446744073709551616 ⌝ }
+    ensures { λ r. ⌜ r ≡ turn s t ⌝ }
+{
+    match s {
+        Scanned::Refused(_) => Turn {
+            on: false,
+            found: s,
+        },
+        Scanned::Ends(h, _) => match t {
+            Taken::One(c, _) => Turn {
+                on: true,
+                found: Scanned::Ends(h + c.size.0 as u64, 0),
+            },
+            Taken::Last(n) => Turn {
+                on: false,
+                found: Scanned::Ends(h, n.0 as u64),
+            },
+            Taken::Bad(i) => Turn {
+                on: false,
+                found: Scanned::Refused(Refusal::BadCodes(i)),
+            },
+        },
+    }
+}
+
+// Where skipping ends.
+pub enum Skipped {
+    At(CodeBytes),
+    Nowhere,
+}
+
+// Skips the codes from an index on whose instructions take n bytes.
+pub fn skip(codes: &[u8], at: CodeBytes, n: u64) -> Skipped
+    ensures { λ r. ⌜ r ≡ skipAt (now (codes .entry)) at n ⌝ }
+{
+    let mut i = at.0;
+    let mut left = n;
+    while left != 0 {
+        let t = take_at(codes, CodeBytes(i));
+        match t {
+            Taken::One(c, next) => {
+                let size = halfword_bytes(c.size);
+                if left < size {
+                    return Skipped::Nowhere;
+                }
+                left -= size;
+                i = next.0;
+            }
+            Taken::Last(_) => {
+                return Skipped::Nowhere;
+            }
+            Taken::Bad(_) => {
+                return Skipped::Nowhere;
+            }
+        }
+    }
+    Skipped::At(CodeBytes(i))
 }
