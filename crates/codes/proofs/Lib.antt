@@ -1,3 +1,10 @@
 pub mod Opened
+pub mod Entries
 pub mod Rows
+pub mod Meanings
+pub mod Values
+pub mod Taking
 pub mod Scanning
+pub mod Sizes
+pub mod Skipping
+pub mod SkipEnds

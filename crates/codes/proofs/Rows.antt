@@ -3,12 +3,16 @@
 -- Assumes nothing.
 use Prim.Native.Nat.{ℕ, _≤_}
 use mathlib.Core.List.{List, [], _∷_}
-use mathlib.Core.Bool.{Bool, true, false, _&&_}
+use mathlib.Core.Path.{_≡_, refl}
+use mathlib.Core.Bool.{Bool, true, false, _&&_, _||_}
 use lib.Dec.{T, leb, leb→le}
 use native.Mathlib.Omega.{arith}
+use borrow.Author.Tests.{leb-true}
 use Rattle.unwinding.specs.Answer.{if_then_else_}
 use Rattle.codes.specs.Table.{Row, row, rows, rowIn, rowOf, none}
-use Rattle.codes.specs.declared.Meaning.the-variants.{Undefined}
+use Rattle.codes.specs.declared.Undo.{Undo}
+use Rattle.codes.specs.declared.Meaning.{Meaning}
+use Rattle.codes.specs.declared.Meaning.the-variants.{Does, End, Undefined}
 
 pub both : (a b : Bool) → T (a && b) → T a × T b
 both true b t = (tt, t)
@@ -47,3 +51,20 @@ row-few b =
     let w = both (leb 1 (r .bytes) && leb (r .bytes) 4) (leb (r .size .0) 2) (few-rows b) in
     let v = both (leb 1 (r .bytes)) (leb (r .bytes) 4) (w .0) in
     record { some = leb→le _ _ (v .0); most = leb→le _ _ (v .1); small = leb→le _ _ (w .1) }
+
+-- one more: a row without an instruction undoes nothing
+abbrev idle : Meaning → Bool
+idle (Does u) = false
+idle End = true
+idle Undefined = true
+
+sized-rows : (b v : ℕ) → T (leb 1 (rowOf b .size .0) || idle (rowOf b .means v))
+unfolding rows
+sized-rows b v = in-all (λ r. leb 1 (r .size .0) || idle (r .means v)) rows b tt
+
+pub row-sized : (b v : ℕ) (u : Undo) → rowOf b .means v ≡ Does u → 1 ≤ rowOf b .size .0
+row-sized b v u e = go (leb 1 (rowOf b .size .0)) refl (rw e at (sized-rows b v))
+  where
+    go : (t : Bool) → leb 1 (rowOf b .size .0) ≡ t → T (t || false) → 1 ≤ rowOf b .size .0
+    go true p h = leb-true _ _ p
+    go false p h = absurd h

@@ -84,10 +84,13 @@ scan-bad s i j h = scan-at s i ∙ go (drop i s) h
     go [] q = let e : codeBytes i ≡ j = cc in ap (λ n. bad (codeBytes n)) (let z : i + 0 ≡ i = omega arith in z) ∙ ap bad e
     go (b ∷ t) q = ap (λ x. follow x (scanFrom (i + 1) t (rowOf b .bytes - 1))) q
 
--- drop after a first byte
+-- what is left behind the code that starts with a byte
 drop-less : (b : ℕ) (t : List ℕ) (k : ℕ) → 1 ≤ k → drop (k - 1) t ≡ drop k (b ∷ t)
 drop-less b t zero h = absurd (let z : 1 ≤ 0 = h in omega arith)
 drop-less b t (suc k) h = let e : suc k - 1 ≡ k = omega arith in ap (λ n. drop n t) e
+
+pub behind : (s : List ℕ) (i b : ℕ) (t : List ℕ) → drop i s ≡ b ∷ t → drop (rowOf b .bytes - 1) t ≡ drop (i + rowOf b .bytes) s
+behind s i b t e = drop-less b t (rowOf b .bytes) (row-few b .some) ∙ ap (drop (rowOf b .bytes)) (sym e) ∙ drop-drop (rowOf b .bytes) i s
 
 pub scan-one :
     (s : List ℕ) (i : ℕ) (c : Code) (next : CodeBytes) → takeAt s (codeBytes i) ≡ One c next
@@ -103,7 +106,33 @@ scan-one s i c next h = scan-at s i ∙ go (drop i s) refl h
         let k : ℕ = rowOf b .bytes in
         let f = row-few b in
         let n : next ≡ codeBytes (i + k) = took i b t c next q .0 in
-        let back : drop (k - 1) t ≡ drop (i + k) s = drop-less b t k (f .some) ∙ ap (drop k) (sym e) ∙ drop-drop k i s in
         let rest : scanFrom (i + 1) t (k - 1) ≡ scan s next =
-        scan-drop t (i + 1) (k - 1) ∙ ap₂ (λ m l. scanFrom m l 0) (omega (arith, f .some)) back ∙ sym (ap (scan s) n ∙ scan-at s (i + k)) in
+        scan-drop t (i + 1) (k - 1) ∙ ap₂ (λ m l. scanFrom m l 0) (omega (arith, f .some)) (behind s i b t e) ∙ sym (ap (scan s) n ∙ scan-at s (i + k)) in
         ap (λ x. follow x (scanFrom (i + 1) t (k - 1))) q ∙ ap (follow (One c next)) rest
+
+-- what holds at an index if it holds behind the code that stands there, if any, holds at each
+module _ (s : List ℕ) (P : ℕ → Type 0) (step : (i : ℕ) → ((c : Code) (next : CodeBytes) → takeAt s (codeBytes i) ≡ One c next → P (next .0)) → P i) where
+  within : (f i : ℕ) → length s - i ≤ f → P i
+  within zero i b = step i (λ c next e. let m = take-next s i c next e in absurd (omega (arith, m .0, m .1)))
+  within (suc f) i b = step i (λ c next e. let m = take-next s i c next e in within f (next .0) (omega (arith, m .0, m .1)))
+
+  pub by-codes : (i : ℕ) → P i
+  by-codes i = within (length s - i) i (omega arith)
+
+-- the same of what the code list at an index is
+pub by-scan :
+    (s : List ℕ) (P : ℕ → Scan → Type 0)
+    → ((i : ℕ) (c : Code) (next : CodeBytes) → takeAt s (codeBytes i) ≡ One c next → P (next .0) (scan s next)
+    → P i (record { list = c ∷ scan s next .list; ending = scan s next .ending }))
+    → ((i : ℕ) (n : Halfwords) → takeAt s (codeBytes i) ≡ Last n → P i (record { list = []; ending = ok (halfwordBytes n) }))
+    → ((i : ℕ) (j : CodeBytes) → takeAt s (codeBytes i) ≡ Bad j → P i (bad j))
+    → (i : CodeBytes) → P (i .0) (scan s i)
+by-scan s P one last bad i = by-codes s (λ j. P j (scan s (codeBytes j))) here (i .0)
+  where
+    here : (j : ℕ) → ((c : Code) (next : CodeBytes) → takeAt s (codeBytes j) ≡ One c next → P (next .0) (scan s next)) → P j (scan s (codeBytes j))
+    here j ih = go (takeAt s (codeBytes j)) refl
+      where
+        go : (x : Taken) → takeAt s (codeBytes j) ≡ x → P j (scan s (codeBytes j))
+        go (One c next) e = rw (scan-one s j c next e) (one j c next e (ih c next e))
+        go (Last n) e = rw (scan-last s j n e) (last j n e)
+        go (Bad k) e = rw (scan-bad s j k e) (bad j k e)

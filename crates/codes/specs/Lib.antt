@@ -1,2 +1,4 @@
 pub mod Table
 pub mod Code
+pub mod Reading
+pub mod Skip

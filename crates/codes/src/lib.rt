@@ -1,8 +1,23 @@
 // The unwind codes of document 01: what each means, how many bytes it has, which size its instruction has. It knows neither registers'
 // values nor records.
+mod table;
+
 use words::CodeBytes;
 use words::Halfwords;
+use words::Refusal;
 use words::StackWords;
+use words::halfword_bytes;
+ghost use mathlib.Core.Path.{_≡_};
+ghost use Prim.Native.Nat.{_+_, _≤_, _<_};
+ghost use lib.ListN.{length, take, drop};
+ghost use mathlib.Core.Bool.{_||_};
+ghost use lib.Dec.{leb, eqb};
+ghost use Rattle.words.specs.Units.{codeBytes, stackWords};
+ghost use Rattle.unwinding.specs.Answer.{if_then_else_};
+ghost use Rattle.codes.specs.Table.{rowOf, range, lrIf};
+ghost use Rattle.codes.specs.Code.{value as valueOf, taken as takenOf, takeAt};
+ghost use Rattle.codes.specs.Reading.{turn, soFar, more};
+ghost use Rattle.codes.specs.Skip.{skipAt};
 
 // What a code undoes. Bit k of a list of registers stands for rk, bit 14 for LR.
 pub enum Undo {
@@ -41,4 +56,219 @@ pub enum Taken {
     Last(Halfwords),
     // no code, with the index that refusal 6 holds
     Bad(CodeBytes),
+}
+
+// The bytes of the code that a first byte begins.
+pub fn code_bytes(b: u8) -> usize
+    ensures { λ r. ⌜ (r ≡ rowOf b .bytes) × (1 ≤ r) × (r ≤ 4) ⌝ }
+{
+    table::CODE_BYTES[b as usize] as usize
+}
+
+// The size of its instruction.
+pub fn instruction_size(b: u8) -> Halfwords
+    ensures { λ r. ⌜ (r ≡ rowOf b .size) × (r .0 ≤ 2) ⌝ }
+{
+    Halfwords(table::SIZES[b as usize] as u32)
+}
+
+// SP + 4 x n.
+fn up(n: u32) -> Meaning
+    ensures { λ r. ⌜ r ≡ Meaning.Does (Undo.Up (stackWords n)) ⌝ }
+{
+    Meaning::Does(Undo::Up(StackWords(n)))
+}
+
+// Pop a list of r0-r12 and, by a bit, LR.
+fn pop(list: u32, lr: u32) -> Meaning
+    requires { ⌜ (list < 8192) × (lr < 2) ⌝ }
+    ensures { λ r. ⌜ r ≡ Meaning.Does (Undo.Pop (list + lrIf lr)) ⌝ }
+{
+    Meaning::Does(Undo::Pop((list + lr * 16384) as u16))
+}
+
+// vpop dS-dE, where the list is not empty.
+fn vpop(s: u32, e: u32) -> Meaning
+    requires { ⌜ (s < 32) × (e < 32) ⌝ }
+    ensures { λ r. ⌜ r ≡ (if leb s e then Meaning.Does (Undo.Vpop s e) else Meaning.Undefined) ⌝ }
+{
+    if s <= e {
+        Meaning::Does(Undo::Vpop(s as u8, e as u8))
+    } else {
+        Meaning::Undefined
+    }
+}
+
+// The lists r4-rX, X from 4 to 11.
+const FROM_R4: [u32; 8] = [16, 48, 112, 240, 496, 1008, 2032, 4080];
+
+fn from_r4(n: u32) -> u32
+    requires { ⌜ n < 8 ⌝ }
+    ensures { λ r. ⌜ (r ≡ range 4 (4 + n)) × (r < 8192) ⌝ }
+{
+    FROM_R4[n as usize]
+}
+
+// SP = rX, but for X = 13 and X = 15.
+fn sp_from(x: u32) -> Meaning
+    requires { ⌜ x < 16 ⌝ }
+    ensures { λ r. ⌜ r ≡ (if eqb x 13 || eqb x 15 then Meaning.Undefined else Meaning.Does (Undo.SpFrom x)) ⌝ }
+{
+    match x {
+        13 | 15 => Meaning::Undefined,
+        _ => Meaning::Does(Undo::SpFrom(x as u8)),
+    }
+}
+
+// Load LR at SP, then SP + 4 x low; the bits above must be 0.
+fn load_lr(high: u32, low: u32) -> Meaning
+    ensures { λ r. ⌜ r ≡ (if eqb high 0 then Meaning.Does (Undo.LoadLr (stackWords low)) else Meaning.Undefined) ⌝ }
+{
+    if high == 0 {
+        Meaning::Does(Undo::LoadLr(StackWords(low)))
+    } else {
+        Meaning::Undefined
+    }
+}
+
+// What a code means, by its first byte and its value, which is its bytes as one number: the rows of document 01's table.
+pub fn means(b: u8, v: u32) -> Meaning
+    ensures { λ r. ⌜ r ≡ rowOf b .means v ⌝ }
+{
+    match b {
+        0x00..=0x7F => up(v % 128),
+        0x80..=0xBF => pop(v % 8192, v / 8192 % 2),
+        0xC0..=0xCF => sp_from(v % 16),
+        0xD0..=0xD7 => pop(from_r4(v % 4), v / 4 % 2),
+        0xD8..=0xDF => pop(from_r4(4 + v % 4), v / 4 % 2),
+        0xE0..=0xE7 => vpop(8, 8 + v % 8),
+        0xE8..=0xEB => up(v % 1024),
+        0xEC..=0xED => pop(v % 256, v / 256 % 2),
+        0xEF => load_lr(v / 16 % 16, v % 16),
+        0xF5 => vpop(v / 16 % 16, v % 16),
+        0xF6 => vpop(16 + v / 16 % 16, 16 + v % 16),
+        0xF7 | 0xF9 => up(v % 65536),
+        0xF8 | 0xFA => up(v % 16777216),
+        0xFB | 0xFC => Meaning::Does(Undo::Nothing),
+        0xFD | 0xFE | 0xFF => Meaning::End,
+        _ => Meaning::Undefined,
+    }
+}
+
+// The n bytes from a place as one number, later bytes lower.
+fn value(codes: &[u8], at: usize, n: usize) -> u32
+    requires { ⌜ (at + n ≤ length (now codes)) × (n ≤ 4) ⌝ }
+    ensures { λ r. ⌜ r ≡ valueOf (take n (drop at (now (codes .entry)))) 0 ⌝ }
+{
+    let mut v: u32 = 0;
+    let mut k: usize = 0;
+    while k < n {
+        v = 256 * v + codes[at + k] as u32;
+        k += 1;
+    }
+    v
+}
+
+// The code at an index, by its first byte and its value; `next` is the index of what follows it.
+fn take_as(b: u8, v: u32, at: CodeBytes, next: CodeBytes) -> Taken
+    requires { ⌜ next ≡ codeBytes (at .0 + rowOf b .bytes) ⌝ }
+    ensures { λ r. ⌜ r ≡ takenOf (at .0) (rowOf b) (rowOf b .means v) ⌝ }
+{
+    let m = means(b, v);
+    let size = instruction_size(b);
+    match m {
+        Meaning::Does(undo) => Taken::One(Code { undo, size }, next),
+        Meaning::End => Taken::Last(size),
+        Meaning::Undefined => Taken::Bad(at),
+    }
+}
+
+// The code at an index of the code bytes.
+pub fn take_at(codes: &[u8], at: CodeBytes) -> Taken
+    ensures { λ r. ⌜ r ≡ takeAt (now (codes .entry)) at ⌝ }
+{
+    let i = at.0;
+    if codes.len() <= i {
+        return Taken::Bad(at);
+    }
+    let b = codes[i];
+    let n = code_bytes(b);
+    if codes.len() - i < n {
+        return Taken::Bad(CodeBytes(codes.len()));
+    }
+    take_as(b, value(codes, i, n), at, CodeBytes(i + n))
+}
+
+// What a pass over a code list finds.
+pub enum Scanned {
+    // the halfwords of the list's instructions, and of its end code's instruction
+    Ends(u64, u64),
+    Refused(Refusal),
+}
+
+// A turn of a pass: whether there is more to take, and what is found so far.
+struct Turn {
+    on: bool,
+    found: Scanned,
+}
+
+// Adds what was taken to a pass.
+fn add(s: Scanned, t: Taken) -> Turn
+    requires { ⌜ soFar s + more t < 18446744073709551616 ⌝ }
+    ensures { λ r. ⌜ r ≡ turn s t ⌝ }
+{
+    match s {
+        Scanned::Refused(_) => Turn {
+            on: false,
+            found: s,
+        },
+        Scanned::Ends(h, _) => match t {
+            Taken::One(c, _) => Turn {
+                on: true,
+                found: Scanned::Ends(h + c.size.0 as u64, 0),
+            },
+            Taken::Last(n) => Turn {
+                on: false,
+                found: Scanned::Ends(h, n.0 as u64),
+            },
+            Taken::Bad(i) => Turn {
+                on: false,
+                found: Scanned::Refused(Refusal::BadCodes(i)),
+            },
+        },
+    }
+}
+
+// Where skipping ends.
+pub enum Skipped {
+    At(CodeBytes),
+    Nowhere,
+}
+
+// Skips the codes from an index on whose instructions take n bytes.
+pub fn skip(codes: &[u8], at: CodeBytes, n: u64) -> Skipped
+    ensures { λ r. ⌜ r ≡ skipAt (now (codes .entry)) at n ⌝ }
+{
+    let mut i = at.0;
+    let mut left = n;
+    while left != 0 {
+        let t = take_at(codes, CodeBytes(i));
+        match t {
+            Taken::One(c, next) => {
+                let size = halfword_bytes(c.size);
+                if left < size {
+                    return Skipped::Nowhere;
+                }
+                left -= size;
+                i = next.0;
+            }
+            Taken::Last(_) => {
+                return Skipped::Nowhere;
+            }
+            Taken::Bad(_) => {
+                return Skipped::Nowhere;
+            }
+        }
+    }
+    Skipped::At(CodeBytes(i))
 }

@@ -1,0 +1,103 @@
+-- `codes::skip` meets its contract. The loop's invariant: what is left to skip from here ends where the whole does from the start. Each
+-- turn moves on within the bytes.
+-- Assumes nothing.
+use Prim.Native.Nat.{_-_, _<_, _≤_}
+use mathlib.Core.Path.{_≡_, refl, sym, ap, subst, _∙_}
+use lib.ListN.{length}
+use native.Mathlib.Omega.{arith}
+use borrow.Author.Needs.{needs}
+use Rattle.words.specs.Units.{codeBytes}
+use Rattle.codes.specs.Skip.{skipAt}
+use Rattle.codes.proofs.Scanning.{take-next}
+use Rattle.codes.proofs.Skipping.{skip-none, skip-one, skip-inside, skip-last, skip-bad}
+use Rattle.codes.proofs.skip.Statement.{statement}
+use Rattle.codes.proofs.skip.Tie as tie
+
+abbrev Inv-loop : tie.InvT-loop
+Inv-loop codes n i₀ left₀ i left = skipAt codes (codeBytes i) left ≡ skipAt codes (codeBytes i₀) n
+
+abbrev μ-loop : tie.MeasureT-loop
+μ-loop codes n i₀ left₀ i left = length codes - i
+
+loop-holds : tie.Need-loop-holds Inv-loop μ-loop
+loop-holds c = refl
+
+take-at-requires : tie.Need-take-at-requires Inv-loop μ-loop
+take-at-requires c κs = search needs
+
+enum-known-t : tie.Need-enum-known-t Inv-loop μ-loop
+enum-known-t c = search needs
+
+halfword-bytes-requires : tie.Need-halfword-bytes-requires Inv-loop μ-loop
+halfword-bytes-requires c κs = search needs
+
+returns : tie.Need-returns Inv-loop μ-loop
+returns c =
+    let a = c .before .before .before .before .before .before .before .before .before .args in
+    let l = c .before .before .before .before .before .before .before .loop in
+    let t = c .before .before .before .t .given in
+    let e = sym (c .before .before .before .before .before .take-at .ensures) ∙ t .1 in
+    sym (skip-inside (a .codes .now) (l .i) (l .left) (c .before .before .before .before .before .before .loop-test .taken) (t .0 .0) (t .0 .1 .0) e (subst (λ x. l .left < x) (c .before .halfword-bytes .ensures .0) (c .if1 .taken))) ∙ l .inv
+
+loop-less : tie.Need-loop-less Inv-loop μ-loop
+loop-less c =
+    let a = c .before .before .before .before .before .before .before .before .before .args in
+    let l = c .before .before .before .before .before .before .before .loop in
+    let t = c .before .before .before .t .given in
+    let e = sym (c .before .before .before .before .before .take-at .ensures) ∙ t .1 in
+    let m = take-next (a .codes .now) (l .i) (t .0 .0) (t .0 .1 .0) e in
+    omega (arith, m .0, m .1)
+
+loop-again : tie.Need-loop-again Inv-loop μ-loop
+loop-again c =
+    let a = c .before .before .before .before .before .before .before .before .before .args in
+    let l = c .before .before .before .before .before .before .before .loop in
+    let t = c .before .before .before .t .given in
+    let e = sym (c .before .before .before .before .before .take-at .ensures) ∙ t .1 in
+    let z = c .before .halfword-bytes .ensures .0 in
+    ap (λ x. skipAt (a .codes .now) (t .0 .1 .0) (l .left - x)) z
+    ∙ sym (skip-one (a .codes .now) (l .i) (l .left) (c .before .before .before .before .before .before .loop-test .taken) (t .0 .0) (t .0 .1 .0) e (subst (λ x. x ≤ l .left) z (c .if1 .left)))
+    ∙ l .inv
+
+enum-told : tie.Need-enum-told Inv-loop μ-loop
+enum-told c = search needs
+
+returns-2 : tie.Need-returns-2 Inv-loop μ-loop
+returns-2 c =
+    let a = c .before .before .before .before .before .before .args in
+    let l = c .before .before .before .before .loop in
+    sym (skip-last (a .codes .now) (l .i) (l .left) (c .before .before .before .loop-test .taken) (c .enum-told .given .0 .0) (sym (c .before .before .take-at .ensures) ∙ c .enum-told .given .1)) ∙ l .inv
+
+enum-told-2 : tie.Need-enum-told-2 Inv-loop μ-loop
+enum-told-2 c = search needs
+
+returns-3 : tie.Need-returns-3 Inv-loop μ-loop
+returns-3 c =
+    let a = c .before .before .before .before .before .before .args in
+    let l = c .before .before .before .before .loop in
+    sym (skip-bad (a .codes .now) (l .i) (l .left) (c .before .before .before .loop-test .taken) (c .enum-told2 .given .0 .0) (sym (c .before .before .take-at .ensures) ∙ c .enum-told2 .given .1)) ∙ l .inv
+
+returns-4 : tie.Need-returns-4 Inv-loop μ-loop
+returns-4 c =
+    let a = c .before .before .before .args in
+    let l = c .before .loop in
+    sym (ap (skipAt (a .codes .now) (codeBytes (l .i))) (c .loop-test .left) ∙ skip-none (a .codes .now) (l .i)) ∙ l .inv
+
+pub skip-spec : {M : Type 1} → statement M
+skip-spec =
+    tie.close
+    (tie.spec
+    Inv-loop
+    μ-loop
+    loop-holds
+    take-at-requires
+    enum-known-t
+    halfword-bytes-requires
+    returns
+    loop-less
+    loop-again
+    enum-told
+    returns-2
+    enum-told-2
+    returns-3
+    returns-4)

@@ -1,0 +1,65 @@
+-- `codes::take_at` meets its contract: each return is a law of the code at an index.
+-- Assumes nothing.
+use Prim.Native.Nat.{_+_}
+use mathlib.Core.Path.{sym, ap, _∙_}
+use lib.ListN.{getD, take, drop}
+use native.Mathlib.Omega.{arith}
+use borrow.Author.Needs.{needs}
+use Rattle.words.specs.Units.{codeBytes}
+use Rattle.codes.specs.Table.{rowOf}
+use Rattle.codes.specs.Code.{value, taken}
+use Rattle.codes.proofs.Taking.{take-past, take-short, take-whole}
+use Rattle.codes.proofs.take_at.Statement.{statement}
+use Rattle.codes.proofs.take_at.Tie as tie
+
+returns : tie.Need-returns
+returns c = let a = c .before .before .args in sym (take-past (a .codes .now) (a .at .0) (c .if1 .taken))
+
+shared-slice-read-b : tie.Need-shared-slice-read-b
+shared-slice-read-b c = search needs
+
+code-bytes-requires : tie.Need-code-bytes-requires
+code-bytes-requires c κs = search needs
+
+sub-if2 : tie.Need-sub-if2
+sub-if2 c = search needs
+
+returns-2 : tie.Need-returns-2
+returns-2 c =
+    let a = c .before .before .before .before .before .args in
+    sym (take-short (a .codes .now) (a .at .0) (omega arith) (omega (arith, c .before .code-bytes .ensures .0, c .if2 .taken)))
+
+value-requires : tie.Need-value-requires
+value-requires c κs = search needs
+
+add-t6 : tie.Need-add-t6
+add-t6 c = search needs
+
+take-as-requires : tie.Need-take-as-requires
+take-as-requires c κs =
+    let a = c .before .before .before .before .before .before .args in
+    ap (λ n. codeBytes (a .at .0 + n)) (c .before .before .code-bytes .ensures .0)
+
+returns-3 : tie.Need-returns-3
+returns-3 c =
+    let a = c .before .before .before .before .before .before .before .args in
+    let b = getD (a .codes .now) (a .at .0) 0 in
+    let n = c .before .before .before .code-bytes .ensures .0 in
+    c .take-as .ensures
+    ∙ ap (λ v. taken (a .at .0) (rowOf b) (rowOf b .means v))
+    (c .before .value .ensures ∙ ap (λ k. value (take k (drop (a .at .0) (a .codes .now))) 0) n)
+    ∙ sym (take-whole (a .codes .now) (a .at .0) (omega arith) (omega (arith, n, c .before .before .if2 .left)))
+
+pub take-at-spec : {M : Type 1} → statement M
+take-at-spec =
+    tie.close
+    (tie.spec
+    returns
+    shared-slice-read-b
+    code-bytes-requires
+    sub-if2
+    returns-2
+    value-requires
+    add-t6
+    take-as-requires
+    returns-3)

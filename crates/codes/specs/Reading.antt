@@ -1,0 +1,45 @@
+-- The reader's moves, and what a pass over a code list finds.
+use Prim.Native.Nat.{ℕ, _+_, _*_, _/_}
+use mathlib.Core.Bool.{true, false}
+use Rattle.words.specs.declared.CodeBytes.{CodeBytes}
+use Rattle.words.specs.declared.Refusal.the-variants.{BadCodes}
+use Rattle.unwinding.specs.Answer.{either}
+use Rattle.unwinding.specs.CodeList.{total}
+use Rattle.codes.specs.Code.{Scan}
+use Rattle.codes.specs.declared.Code.{Code}
+use Rattle.codes.specs.declared.Taken.{Taken}
+use Rattle.codes.specs.declared.Taken.the-variants.{One, Last, Bad}
+use Rattle.codes.specs.declared.Scanned.{Scanned}
+use Rattle.codes.specs.declared.Scanned.the-variants.{Ends, Refused}
+use Rattle.codes.specs.declared.Turn.{Turn}
+
+-- where a reader stands that has taken what stood at an index: past a code, and else where it was
+abbrev pub past : Taken → CodeBytes → CodeBytes
+past (One c next) i = next
+past (Last n) i = i
+past (Bad j) i = i
+
+-- the size of a code's instruction, in halfwords
+abbrev pub halves : Code → ℕ
+halves c = c .size .0
+
+-- the halfwords of a code list's instructions and of its end code's, or refusal 6. A list of any length has fewer than 2 ^ 64
+abbrev pub scanned : Scan → Scanned
+scanned s = either (s .ending) Refused (λ n. Ends (total halves (s .list)) (n / 2))
+
+-- a pass so far, and one thing taken more: a code's size is added, and anything else ends the pass
+abbrev pub turn : Scanned → Taken → Turn
+turn (Refused r) t = record { on = false; found = Refused r }
+turn (Ends h e) (One c next) = record { on = true; found = Ends (h + halves c) 0 }
+turn (Ends h e) (Last n) = record { on = false; found = Ends h (n .0) }
+turn (Ends h e) (Bad i) = record { on = false; found = Refused (BadCodes i) }
+
+-- the halfwords of a pass so far, and of what is taken next
+abbrev pub soFar : Scanned → ℕ
+soFar (Ends h e) = h
+soFar (Refused r) = 0
+
+abbrev pub more : Taken → ℕ
+more (One c next) = halves c
+more (Last n) = 0
+more (Bad i) = 0
