@@ -1,1 +1,4 @@
 pub mod Opened
+pub mod Answers
+pub mod Loading
+pub mod Popping
