@@ -3,7 +3,6 @@
 use codes::Code;
 use codes::Undo;
 use words::Refusal;
-use words::StackWords;
 use words::Verdict;
 ghost use mathlib.Core.Path.{_≡_};
 ghost use Prim.Native.Nat.{_+_, _-_, _*_, _<_, _^_};
@@ -136,16 +135,23 @@ fn kept(g: Regs, r: Refusal) -> Undone
     }
 }
 
+// These registers, with SP to go here.
+fn moved(g: Regs, sp: u64) -> Undone
+    ensures { λ u. ⌜ u ≡ undone g (ok (setSp g sp)) ⌝ }
+{
+    Undone {
+        verdict: Verdict::Given,
+        regs: g,
+        sp,
+    }
+}
+
 // A register takes the word at SP, and SP moves over it.
 fn pop_reg(x: usize, g: Regs, sp: u64, base: u32, stack: &[u8]) -> Undone
     ensures { λ u. ⌜ u ≡ undone g (popReg (lent base (now (stack .entry))) x (setSp g sp)) ⌝ }
 {
     match load(base, stack, sp) {
-        Loaded::Word(w) => Undone {
-            verdict: Verdict::Given,
-            regs: set_reg(g, x, w),
-            sp: sp + 4,
-        },
+        Loaded::Word(w) => moved(set_reg(g, x, w), sp + 4),
         Loaded::Refused(r) => kept(g, r),
     }
 }
@@ -156,11 +162,7 @@ fn pop_d(x: usize, g: Regs, sp: u64, base: u32, stack: &[u8]) -> Undone
 {
     match load(base, stack, sp) {
         Loaded::Word(low) => match load(base, stack, sp + 4) {
-            Loaded::Word(high) => Undone {
-                verdict: Verdict::Given,
-                regs: set_d(g, x, low, high),
-                sp: sp + 8,
-            },
+            Loaded::Word(high) => moved(set_d(g, x, low, high), sp + 8),
             Loaded::Refused(r) => kept(g, r),
         },
         Loaded::Refused(r) => kept(g, r),
@@ -175,11 +177,7 @@ fn pop_listed(list: u16, x: usize, g: Regs, sp: u64, base: u32, stack: &[u8]) ->
     if has(list, x) {
         return pop_reg(x, g, sp, base, stack);
     }
-    Undone {
-        verdict: Verdict::Given,
-        regs: g,
-        sp,
-    }
+    moved(g, sp)
 }
 
 // Pops a list, the lowest register from the lowest address.
@@ -197,11 +195,7 @@ pub fn pop(list: u16, g: Regs, base: u32, stack: &[u8]) -> Undone
         h = u.regs;
         sp = u.sp;
     }
-    Undone {
-        verdict: Verdict::Given,
-        regs: h,
-        sp,
-    }
+    moved(h, sp)
 }
 
 // Pops dS to dE.
@@ -219,9 +213,51 @@ pub fn vpop(s: u8, e: u8, g: Regs, base: u32, stack: &[u8]) -> Undone
         h = u.regs;
         sp = u.sp;
     }
-    Undone {
-        verdict: Verdict::Given,
-        regs: h,
-        sp,
+    moved(h, sp)
+}
+
+// What a code undoes, before SP is looked at.
+fn effect(undo: Undo, g: Regs, base: u32, stack: &[u8]) -> Undone
+    ensures { λ u. ⌜ u ≡ undone g (effectOf (lent base (now (stack .entry))) undo g) ⌝ }
+{
+    let sp = g.sp as u64;
+    match undo {
+        Undo::Up(n) => moved(g, sp + words::stack_bytes(n)),
+        Undo::Pop(list) => pop(list, g, base, stack),
+        Undo::SpFrom(x) => moved(g, reg(g, x as usize) as u64),
+        Undo::Vpop(s, e) => vpop(s, e, g, base, stack),
+        Undo::LoadLr(n) => match load(base, stack, sp) {
+            Loaded::Word(w) => moved(set_reg(g, 14, w), sp + words::stack_bytes(n)),
+            Loaded::Refused(r) => kept(g, r),
+        },
+        Undo::Nothing => moved(g, sp),
+    }
+}
+
+// One code, after which SP must stand in the stack.
+pub fn step(code: Code, g: Regs, base: u32, stack: &[u8]) -> Stepped
+    ensures { λ r. ⌜ r ≡ stepped g (stepOf (lent base (now (stack .entry))) code g) ⌝ }
+{
+    let undo = code.undo;
+    let u = effect(undo, g, base, stack);
+    let verdict = u.verdict;
+    if let Verdict::Refused(r) = verdict {
+        return Stepped {
+            verdict: Verdict::Refused(r),
+            regs: g,
+        };
+    }
+    let sp = u.sp;
+    if stands(base, stack, sp) {
+        let mut h = u.regs;
+        h.sp = sp as u32;
+        return Stepped {
+            verdict: Verdict::Given,
+            regs: h,
+        };
+    }
+    Stepped {
+        verdict: Verdict::Refused(Refusal::BadStack),
+        regs: g,
     }
 }

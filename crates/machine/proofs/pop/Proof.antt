@@ -71,12 +71,16 @@ loop-again c =
       goes-on (λ n. pop k (a .list) n (a .g)) (listed k (a .list)) (pop-next k (a .list) (a .g)) (l .x) (setSp (l .h) (l .sp)) _ (l .inv .2) good,
     )
 
+moved-requires : tie.Need-moved-requires Inv-loop μ-loop
+moved-requires c κs = search needs
+
 returns-2 : tie.Need-returns-2 Inv-loop μ-loop
 returns-2 c =
-    let l = c .before .loop in
-    let a = c .before .before .before .before .args in
+    let l = c .before .before .loop in
+    let a = c .before .before .before .before .before .args in
     let all : l .x ≡ 15 = omega arith in
-    undone-made (a .g) (l .h) (l .sp) (pop (lent (a .base) (a .stack .now)) (a .list) 15 (a .g)) (rw all at (l .inv .2)) (l .inv .1)
+    c .moved .ensures
+    ∙ undone-made (a .g) (l .h) (l .sp) (pop (lent (a .base) (a .stack .now)) (a .list) 15 (a .g)) (rw all at (l .inv .2)) (l .inv .1)
 
 pub pop-spec : {M : Type 1} → statement M
 pop-spec =
@@ -94,4 +98,5 @@ pop-spec =
     add-x
     loop-less
     loop-again
+    moved-requires
     returns-2)

@@ -40,8 +40,11 @@ enum-known-high c = search needs
 set-d-requires : tie.Need-set-d-requires
 set-d-requires c κs = search needs
 
-add-t17 : tie.Need-add-t17
-add-t17 c = omega (arith, load-inside _ _ _ (higher (c .before .before)))
+add-moved : tie.Need-add-moved
+add-moved c = omega (arith, load-inside _ _ _ (higher (c .before .before)))
+
+moved-requires : tie.Need-moved-requires
+moved-requires c κs = search needs
 
 enum-known-r : tie.Need-enum-known-r
 enum-known-r c = search needs
@@ -57,7 +60,9 @@ kept-requires-2 c κs = search needs
 
 returns : tie.Need-returns
 unfolding popD
-returns c = simp (lower (c .before .before .before .before .before .before), higher (c .before .before), c .set-d .ensures)
+returns c =
+    let h = c .before .before .before in
+    simp (lower (h .before .before .before .before), higher h, c .moved .ensures, c .before .set-d .ensures)
 
 returns-2 : tie.Need-returns-2
 unfolding popD
@@ -83,7 +88,8 @@ pop-d-spec =
     load-requires-2
     enum-known-high
     set-d-requires
-    add-t17
+    add-moved
+    moved-requires
     enum-known-r
     kept-requires
     enum-known-r-2

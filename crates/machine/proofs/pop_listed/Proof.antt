@@ -13,8 +13,11 @@ pop-reg-requires c κs = search needs
 returns : tie.Need-returns
 returns c = simp (← c .before .before .has .ensures, c .before .if1 .taken, c .pop-reg .ensures)
 
+moved-requires : tie.Need-moved-requires
+moved-requires c κs = search needs
+
 returns-2 : tie.Need-returns-2
-returns-2 c = simp (← c .before .has .ensures, c .if1 .left)
+returns-2 c = simp (← c .before .before .has .ensures, c .before .if1 .left, c .moved .ensures)
 
 pub pop-listed-spec : {M : Type 1} → statement M
-pop-listed-spec = tie.close (tie.spec has-requires pop-reg-requires returns returns-2)
+pop-listed-spec = tie.close (tie.spec has-requires pop-reg-requires returns moved-requires returns-2)

@@ -26,8 +26,11 @@ enum-known-w c = search needs
 set-reg-requires : tie.Need-set-reg-requires
 set-reg-requires c κs = search needs
 
-add-t12 : tie.Need-add-t12
-add-t12 c = omega (arith, load-inside _ _ _ (word (c .before .before)))
+add-moved : tie.Need-add-moved
+add-moved c = omega (arith, load-inside _ _ _ (word (c .before .before)))
+
+moved-requires : tie.Need-moved-requires
+moved-requires c κs = search needs
 
 enum-known-r : tie.Need-enum-known-r
 enum-known-r c = search needs
@@ -37,7 +40,7 @@ kept-requires c κs = search needs
 
 returns : tie.Need-returns
 unfolding popReg
-returns c = simp (word (c .before .before), c .set-reg .ensures)
+returns c = simp (word (c .before .before .before), c .moved .ensures, c .before .set-reg .ensures)
 
 returns-2 : tie.Need-returns-2
 unfolding popReg
@@ -52,7 +55,8 @@ pop-reg-spec =
     load-requires
     enum-known-w
     set-reg-requires
-    add-t12
+    add-moved
+    moved-requires
     enum-known-r
     kept-requires
     returns

@@ -85,12 +85,16 @@ loop-again c =
           (ap (λ y. popD k y (setSp (l .h) (l .sp))) here ∙ good)),
     )
 
+moved-requires : tie.Need-moved-requires Inv-loop μ-loop
+moved-requires c κs = search needs
+
 returns-2 : tie.Need-returns-2 Inv-loop μ-loop
 returns-2 c =
-    let l = c .before .loop in
-    let a = c .before .before .before .before .args in
+    let l = c .before .before .loop in
+    let a = c .before .before .before .before .before .args in
     let all : l .x - a .s ≡ a .e + 1 - a .s = omega arith in
-    undone-made (a .g) (l .h) (l .sp) (vpop (lent (a .base) (a .stack .now)) (a .s) (a .e + 1 - a .s) (a .g)) (rw all at (l .inv .3)) (l .inv .2)
+    c .moved .ensures
+    ∙ undone-made (a .g) (l .h) (l .sp) (vpop (lent (a .base) (a .stack .now)) (a .s) (a .e + 1 - a .s) (a .g)) (rw all at (l .inv .3)) (l .inv .2)
 
 pub vpop-spec : {M : Type 1} → statement M
 vpop-spec =
@@ -109,4 +113,5 @@ vpop-spec =
     add-x
     loop-less
     loop-again
+    moved-requires
     returns-2)
