@@ -11,6 +11,7 @@ use Rattle.machine.specs.Answers.{loaded, undone, stepped}
 use Rattle.machine.specs.declared.Loaded.the-variants as Word
 use Rattle.machine.specs.declared.Regs.{Regs}
 use Rattle.machine.specs.declared.Undone.{Undone}
+use Rattle.machine.specs.declared.Stepped.{Stepped}
 
 -- a word was loaded, or was not
 pub loaded-word : (x : Res ℕ) (w : ℕ) → loaded x ≡ Word.Word w → x ≡ ok w
@@ -38,3 +39,12 @@ undone-refused g (refuse q) u r e v = let w : undone g (refuse q) .verdict ≡ R
 pub undone-made :
     (g h : Regs) (sp : ℕ) (x : Res Regs) → x ≡ ok (setSp h sp) → h .sp ≡ g .sp → record { verdict = Given; regs = h; sp = sp } ≡ undone g x
 undone-made g h sp x e same = ap (λ s. record { verdict = Given; regs = setSp h s; sp = sp }) same ∙ sym (ap (undone g) e)
+
+-- a step was made, or was not
+pub stepped-given : (g : Regs) (x : Res Regs) (u : Stepped) → u ≡ stepped g x → u .verdict ≡ Given → x ≡ ok (u .regs)
+stepped-given g (ok h) u e v = rw e refl
+stepped-given g (refuse r) u e v = absurd (let w : stepped g (refuse r) .verdict ≡ Given = rw e at v in let z : _≡_ {A = ℕ} 0 1 = cc in omega arith)
+
+pub stepped-refused : (g : Regs) (x : Res Regs) (u : Stepped) (r : Refusal) → u ≡ stepped g x → u .verdict ≡ Refused r → x ≡ refuse r
+stepped-refused g (ok h) u r e v = absurd (let w : stepped g (ok h) .verdict ≡ Refused r = rw e at v in let z : _≡_ {A = ℕ} 0 1 = cc in omega arith)
+stepped-refused g (refuse q) u r e v = let w : stepped g (refuse q) .verdict ≡ Refused r = rw e at v in cc

@@ -3,3 +3,4 @@ pub mod Answers
 pub mod Loading
 pub mod Popping
 pub mod Standing
+pub mod Running

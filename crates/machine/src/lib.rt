@@ -1,17 +1,22 @@
 // The machine that codes act on: registers by value and the lent stack. It knows no tables. No public function asks anything of its
 // caller.
 use codes::Code;
+use codes::Taken;
 use codes::Undo;
+use words::CodeBytes;
 use words::Refusal;
 use words::Verdict;
 ghost use mathlib.Core.Path.{_≡_};
 ghost use Prim.Native.Nat.{_+_, _-_, _*_, _<_, _^_};
+ghost use lib.ListN.{length};
 ghost use Rattle.words.specs.Bits.{bit};
 ghost use Rattle.words.specs.Lent.{lent};
 ghost use Rattle.unwinding.specs.Answer.{ok, refuse, if_then_else_};
+ghost use Rattle.codes.specs.Code.{scan};
 ghost use Rattle.machine.specs.Registers.{reg as regOf, setReg, setD, setSp};
 ghost use Rattle.machine.specs.Step.{stands as standsOf, load as loadOf, popReg, popD, pop as popOf, vpop as vpopOf, effect as effectOf, step as stepOf};
-ghost use Rattle.machine.specs.Answers.{loaded, undone, stepped};
+ghost use Rattle.machine.specs.Answers.{loaded, undone, stepped, oneMore};
+ghost use Rattle.machine.specs.Run.{runAt, ran};
 
 // r0-r12, SP, LR, pc and d0-d31.
 pub struct Regs {
@@ -259,5 +264,56 @@ pub fn step(code: Code, g: Regs, base: u32, stack: &[u8]) -> Stepped
     Stepped {
         verdict: Verdict::Refused(Refusal::BadStack),
         regs: g,
+    }
+}
+
+// No code run, by this refusal.
+fn stopped(g: Regs, r: Refusal) -> Ran
+    ensures { λ x. ⌜ x ≡ ran g 0 (refuse r) ⌝ }
+{
+    Ran {
+        verdict: Verdict::Refused(r),
+        regs: g,
+        codes: 0,
+    }
+}
+
+// What the rest came to, after one code run from these registers.
+fn one_more(g: Regs, rest: Ran) -> Ran
+    requires { ⌜ rest .codes < 2 ^ 63 ⌝ }
+    ensures { λ x. ⌜ x ≡ oneMore g rest ⌝ }
+{
+    let verdict = rest.verdict;
+    if let Verdict::Refused(r) = verdict {
+        return stopped(g, r);
+    }
+    let h = rest.regs;
+    Ran {
+        verdict: Verdict::Given,
+        regs: h,
+        codes: rest.codes + 1,
+    }
+}
+
+// Runs the codes from an index on: the caller after a code list is the caller after its first code and then after the rest.
+pub fn run(codes: &[u8], at: CodeBytes, g: Regs, base: u32, stack: &[u8]) -> Ran
+    ensures { λ r. ⌜ r ≡ ran g (length (scan (now (codes .entry)) at .list)) (runAt (lent base (now (stack .entry))) (now (codes .entry)) at g) ⌝ }
+{
+    match codes::take_at(codes, at) {
+        Taken::One(code, next) => {
+            let first = step(code, g, base, stack);
+            let verdict = first.verdict;
+            if let Verdict::Refused(r) = verdict {
+                return stopped(g, r);
+            }
+            let h = first.regs;
+            one_more(g, run(codes, next, h, base, stack))
+        }
+        Taken::Last(_) => Ran {
+            verdict: Verdict::Given,
+            regs: g,
+            codes: 0,
+        },
+        Taken::Bad(i) => stopped(g, Refusal::BadCodes(i)),
     }
 }
