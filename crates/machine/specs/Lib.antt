@@ -1,3 +1,4 @@
 pub mod Registers
 pub mod Step
 pub mod Run
+pub mod Answers

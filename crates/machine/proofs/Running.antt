@@ -1,0 +1,126 @@
+-- Running the codes from an index on: by the code that stands there, and where the code list is known.
+-- Assumes nothing.
+use Prim.Native.Nat.{ℕ, zero, suc, _+_, _-_, _≤_}
+use mathlib.Core.Path.{_≡_, refl, sym, ap, ap₂, _∙_}
+use mathlib.Core.List.{List, [], _∷_}
+use lib.ListN.{length}
+use native.Mathlib.Numerals.{add-one}
+use native.Mathlib.Omega.{arith}
+use Rattle.words.specs.Lent.{Lent}
+use Rattle.words.specs.declared.CodeBytes.{CodeBytes}
+use Rattle.words.specs.declared.Halfwords.{Halfwords}
+use Rattle.words.specs.declared.Refusal.{Refusal}
+use Rattle.words.specs.declared.Refusal.the-variants.{BadCodes}
+use Rattle.unwinding.specs.Answer.{Res, ok, refuse, _>>=_, _>>_}
+use Rattle.unwinding.specs.CodeList.{Codes, run}
+use Rattle.unwinding.proofs.Running.{bind-assoc, bind-same, run-empty, run-step}
+use Rattle.codes.specs.Table.{rowOf}
+use Rattle.codes.specs.Code.{takeFrom, takeAt, Scan, follow, scanFrom, scan, codesAt}
+use Rattle.codes.specs.declared.Code.{Code}
+use Rattle.codes.specs.declared.Taken.{Taken}
+use Rattle.codes.specs.declared.Taken.the-variants.{One, Last, Bad}
+use Rattle.codes.proofs.Scanning.{scan-one, scan-last, scan-bad}
+use Rattle.machine.specs.Step.{step}
+use Rattle.machine.specs.Run.{runAt, ran}
+use Rattle.machine.specs.Answers.{oneMore}
+use Rattle.machine.specs.declared.Regs.{Regs}
+use Rattle.machine.specs.declared.Ran.{Ran}
+
+-- the codes of a scan, and then its end
+abbrev through : Lent → Regs → Scan → Res Regs
+through k g z = run (step k) (z .list) g >>= λ h. z .ending >> ok h
+
+module _ (k : Lent) (s : List ℕ) (i : CodeBytes) (g : Regs) where
+  -- "the caller after its first code and then after the rest"
+  pub run-first : (c : Code) (next : CodeBytes) → takeAt s i ≡ One c next → runAt k s i g ≡ (step k c g >>= λ h. runAt k s next h)
+  unfolding runAt
+  run-first c next e =
+      ap (through k g) (scan-one s (i .0) c next e)
+      ∙ ap (λ x. x >>= λ h. scan s next .ending >> ok h) (run-step (step k) c (scan s next .list) g)
+      ∙ bind-assoc (step k c g) (λ t. run (step k) (scan s next .list) t) (λ h. scan s next .ending >> ok h)
+
+  pub run-last : (n : Halfwords) → takeAt s i ≡ Last n → runAt k s i g ≡ ok g
+  unfolding runAt
+  run-last n e = ap (through k g) (scan-last s (i .0) n e) ∙ rw (run-empty (step k) g) refl
+
+  pub run-bad : (j : CodeBytes) → takeAt s i ≡ Bad j → runAt k s i g ≡ refuse (BadCodes j)
+  unfolding runAt
+  run-bad j e = ap (through k g) (scan-bad s (i .0) j e) ∙ rw (run-empty (step k) g) refl
+
+-- the count of the codes goes the same way
+pub count-first :
+    (s : List ℕ) (i : CodeBytes) (c : Code) (next : CodeBytes) → takeAt s i ≡ One c next
+    → length (scan s i .list) ≡ length (scan s next .list) + 1
+count-first s i c next e = ap (λ z. length (z .list)) (scan-one s (i .0) c next e) ∙ sym (add-one _)
+
+pub count-last : (s : List ℕ) (i : CodeBytes) (n : Halfwords) → takeAt s i ≡ Last n → length (scan s i .list) ≡ 0
+count-last s i n e = ap (λ z. length (z .list)) (scan-last s (i .0) n e)
+
+-- there are at most as many codes as bytes
+follow-short : (t : Taken) (z : Scan) (n : ℕ) → length (z .list) ≤ n → length (follow t z .list) ≤ suc n
+follow-short (One c next) z n h = omega arith
+follow-short (Last m) z n h = omega arith
+follow-short (Bad j) z n h = omega arith
+
+from-short : (a : ℕ) (s : List ℕ) (k : ℕ) → length (scanFrom a s k .list) ≤ length s
+unfolding scanFrom
+from-short a [] k = omega arith
+from-short a (b ∷ s) (suc k) = omega (arith, from-short (a + 1) s k)
+from-short a (b ∷ s) zero = follow-short (takeFrom a (b ∷ s)) _ (length s) (from-short (a + 1) s (rowOf b .bytes - 1))
+
+pub codes-short : (s : List ℕ) (i : CodeBytes) → length (scan s i .list) ≤ length s
+codes-short s i = from-short 0 s (i .0)
+
+-- what a run gives back: "end codes not counted", and none where it was refused
+more : (g h : Regs) (n : ℕ) (x : Res Regs) (rest : Ran) → rest ≡ ran h n x → oneMore g rest ≡ ran g (n + 1) x
+more g h n (ok t) rest e = rw e refl
+more g h n (refuse r) rest e = rw e refl
+
+pub ran-few : (g : Regs) (n : ℕ) (x : Res Regs) (whole : Ran) → whole ≡ ran g n x → whole .codes ≤ n
+ran-few g n (ok t) whole e = rw e (omega arith)
+ran-few g n (refuse r) whole e = rw e (omega arith)
+
+module _ (k : Lent) (s : List ℕ) (i : CodeBytes) (g : Regs) where
+  abbrev answer : Ran
+  answer = ran g (length (scan s i .list)) (runAt k s i g)
+
+  pub ran-first :
+      (c : Code) (next : CodeBytes) (h : Regs) (rest : Ran) → takeAt s i ≡ One c next → step k c g ≡ ok h
+      → rest ≡ ran h (length (scan s next .list)) (runAt k s next h) → oneMore g rest ≡ answer
+  ran-first c next h rest e f q =
+      more g h (length (scan s next .list)) (runAt k s next h) rest q
+      ∙ sym (ap₂ (ran g) (count-first s i c next e) (run-first k s i g c next e ∙ ap (λ x. x >>= λ t. runAt k s next t) f))
+
+  pub ran-stopped :
+      (c : Code) (next : CodeBytes) (r : Refusal) → takeAt s i ≡ One c next → step k c g ≡ refuse r → ran g 0 (refuse r) ≡ answer
+  ran-stopped c next r e f =
+      sym (ap (ran g (length (scan s i .list))) (run-first k s i g c next e ∙ ap (λ x. x >>= λ t. runAt k s next t) f))
+
+  pub ran-last : (n : Halfwords) → takeAt s i ≡ Last n → ran g 0 (ok g) ≡ answer
+  ran-last n e = sym (ap₂ (ran g) (count-last s i n e) (run-last k s i g n e))
+
+  pub ran-bad : (j : CodeBytes) → takeAt s i ≡ Bad j → ran g 0 (refuse (BadCodes j)) ≡ answer
+  ran-bad j e = sym (ap (ran g (length (scan s i .list))) (run-bad k s i g j e))
+
+-- where the code bytes hold a whole code list, running them is running the list
+bind-ok : {A : Type 0} (x : Res A) → (x >>= λ a. ok a) ≡ x
+bind-ok (ok a) = refl
+bind-ok (refuse r) = refl
+
+whole :
+    (l : List Code) (x : Res ℕ) (c : Codes Code) → (x >>= λ n. ok (record { list = l; endSize = n })) ≡ ok c
+    → (l ≡ c .list) × ((h : Regs) → (x >> ok h) ≡ ok h)
+whole l (ok n) c e = let same : record { list = l; endSize = n } ≡ c = cc in (ap (λ d. d .list) same, λ h. refl)
+whole l (refuse r) c e = absurd (let z : _≡_ {A = ℕ} 0 1 = cc in omega arith)
+
+module _ (s : List ℕ) (i : CodeBytes) (c : Codes Code) (e : codesAt s i ≡ ok c) where
+  pub codes-list : scan s i .list ≡ c .list
+  codes-list = whole (scan s i .list) (scan s i .ending) c e .0
+
+  pub run-codes : (k : Lent) (g : Regs) → runAt k s i g ≡ run (step k) (c .list) g
+  unfolding runAt
+  run-codes k g =
+      let x = run (step k) (scan s i .list) g in
+      bind-same x (λ h. scan s i .ending >> ok h) (λ h. ok h) (whole (scan s i .list) (scan s i .ending) c e .1)
+      ∙ bind-ok x
+      ∙ ap (λ l. run (step k) l g) codes-list

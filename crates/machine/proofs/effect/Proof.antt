@@ -1,0 +1,150 @@
+-- `effect` meets its contract: each case is the definition's, by what its callees give.
+-- Assumes nothing.
+use mathlib.Core.Path.{sym, _∙_}
+use borrow.Author.Needs.{needs}
+use Rattle.words.specs.Lent.{lent}
+use Rattle.machine.specs.Step.{load}
+use Rattle.machine.proofs.Answers.{loaded-word, loaded-refused}
+use Rattle.machine.proofs.effect.Statement.{statement}
+use Rattle.machine.proofs.effect.Tie as tie
+
+cast-sp : tie.Need-cast-sp
+cast-sp c = search needs
+
+enum-known-undo : tie.Need-enum-known-undo
+enum-known-undo c = search needs
+
+stack-bytes-requires : tie.Need-stack-bytes-requires
+stack-bytes-requires c κs = search needs
+
+add-moved : tie.Need-add-moved
+add-moved c = search needs
+
+moved-requires : tie.Need-moved-requires
+moved-requires c κs = search needs
+
+enum-known-undo-2 : tie.Need-enum-known-undo-2
+enum-known-undo-2 c = search needs
+
+pop-requires : tie.Need-pop-requires
+pop-requires c κs = search needs
+
+enum-known-undo-3 : tie.Need-enum-known-undo-3
+enum-known-undo-3 c = search needs
+
+cast-reg : tie.Need-cast-reg
+cast-reg c = search needs
+
+reg-requires : tie.Need-reg-requires
+reg-requires c κs = search needs
+
+cast-moved : tie.Need-cast-moved
+cast-moved c = search needs
+
+moved-requires-2 : tie.Need-moved-requires-2
+moved-requires-2 c κs = search needs
+
+enum-known-undo-4 : tie.Need-enum-known-undo-4
+enum-known-undo-4 c = search needs
+
+vpop-requires : tie.Need-vpop-requires
+vpop-requires c κs = search needs
+
+enum-known-undo-5 : tie.Need-enum-known-undo-5
+enum-known-undo-5 c = search needs
+
+load-requires : tie.Need-load-requires
+load-requires c κs = search needs
+
+enum-known-w : tie.Need-enum-known-w
+enum-known-w c = search needs
+
+set-reg-requires : tie.Need-set-reg-requires
+set-reg-requires c κs = search needs
+
+stack-bytes-requires-2 : tie.Need-stack-bytes-requires-2
+stack-bytes-requires-2 c κs = search needs
+
+add-moved-2 : tie.Need-add-moved-2
+add-moved-2 c = search needs
+
+moved-requires-3 : tie.Need-moved-requires-3
+moved-requires-3 c κs = search needs
+
+enum-known-r : tie.Need-enum-known-r
+enum-known-r c = search needs
+
+kept-requires : tie.Need-kept-requires
+kept-requires c κs = search needs
+
+enum-told : tie.Need-enum-told
+enum-told c = search needs
+
+moved-requires-4 : tie.Need-moved-requires-4
+moved-requires-4 c κs = search needs
+
+returns : tie.Need-returns
+returns c = simp (c .before .before .before .undo .given .1, c .moved .ensures, c .before .stack-bytes .ensures .0)
+
+returns-2 : tie.Need-returns-2
+returns-2 c = simp (c .before .before .undo2 .given .1, c .pop .ensures)
+
+returns-3 : tie.Need-returns-3
+returns-3 c = simp (c .before .before .before .undo3 .given .1, c .moved2 .ensures, c .before .reg .ensures .0)
+
+returns-4 : tie.Need-returns-4
+returns-4 c = simp (c .before .before .undo4 .given .1, c .vpop .ensures)
+
+returns-5 : tie.Need-returns-5
+returns-5 c =
+    let l = c .before .before .before .before .before .before in
+    let a = l .before .before .before .before .before .before .args in
+    let word = loaded-word (load (lent (a .base) (a .stack .now)) (a .g .sp)) _ (sym (l .load .ensures) ∙ c .before .before .before .before .w .given .1) in
+    rw (l .before .before .undo5 .given .1, word) (simp (c .moved3 .ensures, c .before .before .set-reg .ensures, c .before .stack-bytes2 .ensures .0))
+
+returns-6 : tie.Need-returns-6
+returns-6 c =
+    let l = c .before .before .before .before in
+    let a = l .before .before .before .before .before .before .args in
+    let none = loaded-refused (load (lent (a .base) (a .stack .now)) (a .g .sp)) _ (sym (l .load .ensures) ∙ c .before .before .r .given .1) in
+    rw (l .before .before .undo5 .given .1, none) (c .kept .ensures)
+
+returns-7 : tie.Need-returns-7
+returns-7 c = simp (c .before .enum-told .given .1, c .moved4 .ensures)
+
+pub effect-spec : {M : Type 1} → statement M
+effect-spec =
+    tie.close
+    (tie.spec
+    cast-sp
+    enum-known-undo
+    stack-bytes-requires
+    add-moved
+    moved-requires
+    enum-known-undo-2
+    pop-requires
+    enum-known-undo-3
+    cast-reg
+    reg-requires
+    cast-moved
+    moved-requires-2
+    enum-known-undo-4
+    vpop-requires
+    enum-known-undo-5
+    load-requires
+    enum-known-w
+    set-reg-requires
+    stack-bytes-requires-2
+    add-moved-2
+    moved-requires-3
+    enum-known-r
+    kept-requires
+    enum-told
+    moved-requires-4
+    returns
+    returns-2
+    returns-3
+    returns-4
+    returns-5
+    returns-6
+    returns-7)
