@@ -1,2 +1,4 @@
 pub mod Opened
 pub mod Order
+pub mod Placing
+pub mod Within

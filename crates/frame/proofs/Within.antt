@@ -1,0 +1,72 @@
+-- A frame at an offset that its record covers: the spot found, the codes run from its index, 11, and the caller.
+-- Assumes nothing.
+use Prim.Native.Nat.{ℕ}
+use mathlib.Core.Path.{_≡_, refl, sym, ap, _∙_}
+use mathlib.Core.List.{List}
+use mathlib.Core.Bool.{Bool}
+use lib.ListN.{length}
+use lib.Dec.{leb}
+use Rattle.words.specs.Lent.{Lent}
+use Rattle.words.specs.declared.Place.{Place}
+use Rattle.words.specs.declared.CodeBytes.{CodeBytes}
+use Rattle.words.specs.declared.Refusal.the-variants.{SpFell}
+use Rattle.words.specs.declared.Verdict.{Verdict}
+use Rattle.words.specs.declared.Verdict.the-variants.{Given, Refused}
+use Rattle.unwinding.specs.Answer.{Res, ok, refuse, _>>=_, _>>_, need}
+use Rattle.unwinding.specs.CodeList.{run}
+use Rattle.unwinding.specs.Shape.{Shape}
+use Rattle.unwinding.specs.View.{View, view}
+use Rattle.unwinding.specs.Todo.{Todo, todo}
+use Rattle.unwinding.proofs.Running.{bind-assoc}
+use Rattle.codes.specs.declared.Code.{Code}
+use Rattle.codes.specs.Code.{size, scan, codesAt}
+use Rattle.machine.specs.declared.Regs.{Regs}
+use Rattle.machine.specs.Step.{step}
+use Rattle.machine.specs.Run.{runAt}
+use Rattle.frame.specs.Frame.{Caller, returned, within}
+use Rattle.frame.specs.Look.{spotOf}
+use Rattle.frame.specs.declared.Spot.{Spot}
+use Rattle.frame.proofs.Placing.{todoBy, spot-todo, EndedBy, spot-ends}
+
+-- 11, and the caller
+abbrev pub finish : (handler : ℕ) → (given : Regs) → Place → (codes : ℕ) → Regs → Res Caller
+finish handler g p n h =
+    need (leb (g .sp) (h .sp)) SpFell >> ok (record { regs = returned h; place = p; handler = handler; codes = n })
+
+-- the codes from an index run, and that
+abbrev pub ranFrom : (stack : Lent) → (codes : List ℕ) → (handler : ℕ) → Regs → Place → CodeBytes → Res Caller
+ranFrom k s handler g p i = runAt k s i g >>= finish handler g p (length (scan s i .list))
+
+abbrev pub fromBy : (stack : Lent) → (codes : List ℕ) → (handler : ℕ) → Regs → Place → CodeBytes → Verdict → Res Caller
+fromBy k s handler g p i Given = ranFrom k s handler g p i
+fromBy k s handler g p i (Refused r) = refuse r
+
+abbrev pub fromSpot : (stack : Lent) → (codes : List ℕ) → (handler : ℕ) → Regs → Spot → Res Caller
+fromSpot k s handler g p = fromBy k s handler g (p .place) (p .index) (p .verdict)
+
+abbrev undone : (stack : Lent) → (handler : ℕ) → Regs → Todo Code → Res Caller
+undone k handler g t = run (step k) (t .codes) g >>= finish handler g (t .place) (length (t .codes))
+
+todo-ran :
+    (k : Lent) (s : List ℕ) (handler : ℕ) (g : Regs) (p : Place) (i : CodeBytes) (v : Verdict) → EndedBy s i v
+    → (todoBy s p i v >>= undone k handler g) ≡ fromBy k s handler g p i v
+unfolding runAt
+todo-ran k s handler g p i (Refused r) e = refl
+todo-ran k s handler g p i Given e = rw (e .1) (go (run (step k) (scan s i .list) g))
+  where
+    go :
+        (x : Res Regs)
+        → (x >>= finish handler g p (length (scan s i .list)))
+        ≡ (x >>= (λ h. ok (e .0) >> ok h) >>= finish handler g p (length (scan s i .list)))
+    go (ok h) = refl
+    go (refuse r) = refl
+
+pub within-spot :
+    (k : Lent) (sh : Shape) (o : ℕ) (g : Regs)
+    → within k sh o g ≡ fromSpot k (sh .codes) (sh .handler) g (spotOf (sh .codes) (sh .span) (sh .fragment) (sh .scopes) o)
+unfolding within
+within-spot k sh o g =
+    sym (bind-assoc (view size codesAt sh) (λ v. todo size v o) (undone k (sh .handler) g))
+    ∙ ap (λ x. x >>= undone k (sh .handler) g) (spot-todo sh o)
+    ∙ (let p = spotOf (sh .codes) (sh .span) (sh .fragment) (sh .scopes) o in
+    todo-ran k (sh .codes) (sh .handler) g (p .place) (p .index) (p .verdict) (spot-ends (sh .codes) (sh .span) (sh .fragment) (sh .scopes) o))
