@@ -6,5 +6,6 @@ pub mod Values
 pub mod Taking
 pub mod Scanning
 pub mod Sizes
+pub mod Passing
 pub mod Skipping
 pub mod SkipEnds

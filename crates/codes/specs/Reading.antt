@@ -9,6 +9,7 @@ use Rattle.codes.specs.Code.{Scan}
 use Rattle.codes.specs.declared.Code.{Code}
 use Rattle.codes.specs.declared.Taken.{Taken}
 use Rattle.codes.specs.declared.Taken.the-variants.{One, Last, Bad}
+use Rattle.codes.specs.declared.Moved.{Moved}
 use Rattle.codes.specs.declared.Scanned.{Scanned}
 use Rattle.codes.specs.declared.Scanned.the-variants.{Ends, Refused}
 use Rattle.codes.specs.declared.Turn.{Turn}
@@ -18,6 +19,9 @@ abbrev pub past : Taken → CodeBytes → CodeBytes
 past (One c next) i = next
 past (Last n) i = i
 past (Bad j) i = i
+
+abbrev pub moved : Taken → CodeBytes → Moved
+moved t i = record { taken = t; at = past t i }
 
 -- the size of a code's instruction, in halfwords
 abbrev pub halves : Code → ℕ

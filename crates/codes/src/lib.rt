@@ -15,8 +15,8 @@ ghost use lib.Dec.{leb, eqb};
 ghost use Rattle.words.specs.Units.{codeBytes, stackWords};
 ghost use Rattle.unwinding.specs.Answer.{if_then_else_};
 ghost use Rattle.codes.specs.Table.{rowOf, range, lrIf};
-ghost use Rattle.codes.specs.Code.{value as valueOf, taken as takenOf, takeAt};
-ghost use Rattle.codes.specs.Reading.{turn, soFar, more};
+ghost use Rattle.codes.specs.Code.{value as valueOf, taken as takenOf, takeAt, scan as scanOf};
+ghost use Rattle.codes.specs.Reading.{past, moved, scanned, turn, soFar, more};
 ghost use Rattle.codes.specs.Skip.{skipAt};
 
 // What a code undoes. Bit k of a list of registers stands for rk, bit 14 for LR.
@@ -199,6 +199,58 @@ pub fn take_at(codes: &[u8], at: CodeBytes) -> Taken
     take_as(b, value(codes, i, n), at, CodeBytes(i + n))
 }
 
+// "One reader stands on the lent code bytes and moves over them."
+pub struct Reader<'a> {
+    pub codes: &'a [u8],
+    pub at: CodeBytes,
+}
+
+// What a reader took, and the reader behind it.
+pub struct Step<'a> {
+    pub taken: Taken,
+    pub rest: Reader<'a>,
+}
+
+// What stands at an index, and where a reader stands that has taken it.
+struct Moved {
+    taken: Taken,
+    at: CodeBytes,
+}
+
+fn move_at(codes: &[u8], at: CodeBytes) -> Moved
+    ensures { λ r. ⌜ r ≡ moved (takeAt (now (codes .entry)) at) at ⌝ }
+{
+    let taken = take_at(codes, at);
+    match taken {
+        Taken::One(_, next) => Moved { taken, at: next },
+        Taken::Last(_) => Moved { taken, at },
+        Taken::Bad(_) => Moved { taken, at },
+    }
+}
+
+impl<'a> Reader<'a> {
+    pub fn new(codes: &'a [u8], at: CodeBytes) -> Reader<'a>
+        ensures { λ r. ⌜ r ≡ record { codes = codes .entry; at = at } ⌝ }
+    {
+        Reader { codes, at }
+    }
+
+    // Takes one code, and hands the reader on.
+    pub fn take(self) -> Step<'a>
+        ensures { λ s. ⌜ (s .taken ≡ takeAt (now (self .entry .codes)) (self .entry .at))
+            × (s .rest ≡ record { codes = self .entry .codes; at = past (takeAt (now (self .entry .codes)) (self .entry .at)) (self .entry .at) }) ⌝ }
+    {
+        let m = move_at(self.codes, self.at);
+        Step {
+            taken: m.taken,
+            rest: Reader {
+                codes: self.codes,
+                at: m.at,
+            },
+        }
+    }
+}
+
 // What a pass over a code list finds.
 pub enum Scanned {
     // the halfwords of the list's instructions, and of its end code's instruction
@@ -237,6 +289,24 @@ fn add(s: Scanned, t: Taken) -> Turn
             },
         },
     }
+}
+
+// One pass of a reader over the code list at an index.
+pub fn scan(codes: &[u8], at: CodeBytes) -> Scanned
+    ensures { λ r. ⌜ r ≡ scanned (scanOf (now (codes .entry)) at) ⌝ }
+{
+    let mut r = Reader::new(codes, at);
+    let mut s = Scanned::Ends(0, 0);
+    loop {
+        let t = r.take();
+        let u = add(s, t.taken);
+        s = u.found;
+        if !u.on {
+            break;
+        }
+        r = t.rest;
+    }
+    s
 }
 
 // Where skipping ends.

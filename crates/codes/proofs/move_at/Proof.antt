@@ -1,0 +1,41 @@
+-- `codes::move_at` meets its contract: it goes by what was taken, as the definition does.
+-- Assumes nothing.
+use mathlib.Core.Path.{sym, ap, _∙_}
+use borrow.Author.Needs.{needs}
+use Rattle.codes.specs.Reading.{past, moved}
+use Rattle.codes.proofs.move_at.Statement.{statement}
+use Rattle.codes.proofs.move_at.Tie as tie
+
+take-at-requires : tie.Need-take-at-requires
+take-at-requires c κs = search needs
+
+enum-known-taken : tie.Need-enum-known-taken
+enum-known-taken c = search needs
+
+enum-told : tie.Need-enum-told
+enum-told c = search needs
+
+enum-told-2 : tie.Need-enum-told-2
+enum-told-2 c = search needs
+
+returns : tie.Need-returns
+returns c =
+    let a = c .before .before .before .before .before .args in
+    ap (λ x. moved x (a .at)) (sym (c .before .taken .given .1) ∙ c .before .before .before .take-at .ensures)
+
+returns-2 : tie.Need-returns-2
+returns-2 c =
+    let a = c .before .before .before .before .args in
+    let t = c .before .before .take-at in
+    ap (λ x. record { taken = t .result; at = past x (a .at) }) (sym (c .enum-told .given .1)) ∙ ap (λ x. moved x (a .at)) (t .ensures)
+
+returns-3 : tie.Need-returns-3
+returns-3 c =
+    let a = c .before .before .before .before .args in
+    let t = c .before .before .take-at in
+    ap (λ x. record { taken = t .result; at = past x (a .at) }) (sym (c .enum-told2 .given .1)) ∙ ap (λ x. moved x (a .at)) (t .ensures)
+
+pub move-at-spec : {M : Type 1} → statement M
+move-at-spec =
+    tie.close
+    (tie.spec take-at-requires enum-known-taken enum-told enum-told-2 returns returns-2 returns-3)
