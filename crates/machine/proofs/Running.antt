@@ -124,3 +124,7 @@ module _ (s : List ℕ) (i : CodeBytes) (c : Codes Code) (e : codesAt s i ≡ ok
       bind-same x (λ h. scan s i .ending >> ok h) (λ h. ok h) (whole (scan s i .list) (scan s i .ending) c e .1)
       ∙ bind-ok x
       ∙ ap (λ l. run (step k) l g) codes-list
+
+  -- what is given back is what the list gives, and its length
+  pub ran-codes : (k : Lent) (g : Regs) → ran g (length (scan s i .list)) (runAt k s i g) ≡ ran g (length (c .list)) (run (step k) (c .list) g)
+  ran-codes k g = ap₂ (ran g) (ap length codes-list) (run-codes k g)

@@ -6,14 +6,14 @@ use Rattle.unwinding.specs.Answer.{Res, ok, refuse}
 use Rattle.machine.specs.Registers.{setSp}
 use Rattle.machine.specs.declared.Regs.{Regs}
 use Rattle.machine.specs.declared.Loaded.{Loaded}
-use Rattle.machine.specs.declared.Loaded.the-variants as Word
+use Rattle.machine.specs.declared.Loaded.the-variants as Loads
 use Rattle.machine.specs.declared.Undone.{Undone}
 use Rattle.machine.specs.declared.Stepped.{Stepped}
 use Rattle.machine.specs.declared.Ran.{Ran}
 
 abbrev pub loaded : Res ℕ → Loaded
-loaded (ok w) = Word.Word w
-loaded (refuse r) = Word.Refused r
+loaded (ok w) = Loads.Word w
+loaded (refuse r) = Loads.Refused r
 
 -- SP stands beside the registers, which keep the given one; a refusal gives back the given registers and their SP
 abbrev pub undone : (g : Regs) → Res Regs → Undone

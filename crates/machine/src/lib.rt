@@ -5,6 +5,7 @@ use codes::Taken;
 use codes::Undo;
 use words::CodeBytes;
 use words::Refusal;
+use words::StackWords;
 use words::Verdict;
 ghost use mathlib.Core.Path.{_≡_};
 ghost use Prim.Native.Nat.{_+_, _-_, _*_, _<_, _^_};
@@ -35,10 +36,10 @@ pub enum Loaded {
 
 // What undoing came to before SP is looked at: the registers with the SP that was given, and beside them where SP goes, which may be
 // past 2^32. A refusal gives back the given registers and their SP.
-pub struct Undone {
-    pub verdict: Verdict,
-    pub regs: Regs,
-    pub sp: u64,
+struct Undone {
+    verdict: Verdict,
+    regs: Regs,
+    sp: u64,
 }
 
 // What one code came to. A refusal gives back the given registers.
@@ -55,7 +56,7 @@ pub struct Ran {
 }
 
 // A register by number, LR as 14.
-pub fn reg(g: Regs, x: usize) -> u32
+fn reg(g: Regs, x: usize) -> u32
     ensures { λ r. ⌜ (r ≡ regOf g x) × (r < 2 ^ 32) ⌝ }
 {
     if x == 14 {
@@ -93,7 +94,7 @@ fn set_d(g: Regs, x: usize, low: u32, high: u32) -> Regs
     h
 }
 
-// SP may stand here.
+// SP may stand here: a multiple of 4 in base..end, the end allowed.
 pub fn stands(base: u32, stack: &[u8], sp: u64) -> bool
     ensures { λ r. ⌜ r ≡ standsOf (lent base (now (stack .entry))) sp ⌝ }
 {
@@ -111,7 +112,7 @@ pub fn stands(base: u32, stack: &[u8], sp: u64) -> bool
     sp < 4294967296
 }
 
-// The word at an address.
+// The word at an address; a word outside is refused.
 pub fn load(base: u32, stack: &[u8], at: u64) -> Loaded
     ensures { λ r. ⌜ r ≡ loaded (loadOf (lent base (now (stack .entry))) at) ⌝ }
 {
@@ -185,8 +186,8 @@ fn pop_listed(list: u16, x: usize, g: Regs, sp: u64, base: u32, stack: &[u8]) ->
     moved(g, sp)
 }
 
-// Pops a list, the lowest register from the lowest address.
-pub fn pop(list: u16, g: Regs, base: u32, stack: &[u8]) -> Undone
+// Pops a list, the lowest register from the lowest address; 14 is its last.
+fn pop(list: u16, g: Regs, base: u32, stack: &[u8]) -> Undone
     ensures { λ u. ⌜ u ≡ undone g (popOf (lent base (now (stack .entry))) list 15 g) ⌝ }
 {
     let mut h = g;
@@ -203,8 +204,8 @@ pub fn pop(list: u16, g: Regs, base: u32, stack: &[u8]) -> Undone
     moved(h, sp)
 }
 
-// Pops dS to dE.
-pub fn vpop(s: u8, e: u8, g: Regs, base: u32, stack: &[u8]) -> Undone
+// Pops dS to dE, the lowest from the lowest address.
+fn vpop(s: u8, e: u8, g: Regs, base: u32, stack: &[u8]) -> Undone
     ensures { λ u. ⌜ u ≡ undone g (vpopOf (lent base (now (stack .entry))) s (e + 1 - s) g) ⌝ }
 {
     let mut h = g;
@@ -221,6 +222,17 @@ pub fn vpop(s: u8, e: u8, g: Regs, base: u32, stack: &[u8]) -> Undone
     moved(h, sp)
 }
 
+// LR takes the word at SP, and SP moves by an amount.
+fn load_lr(n: StackWords, g: Regs, base: u32, stack: &[u8]) -> Undone
+    ensures { λ u. ⌜ u ≡ undone g (effectOf (lent base (now (stack .entry))) (Undo.LoadLr n) g) ⌝ }
+{
+    let sp = g.sp as u64;
+    match load(base, stack, sp) {
+        Loaded::Word(w) => moved(set_reg(g, 14, w), sp + words::stack_bytes(n)),
+        Loaded::Refused(r) => kept(g, r),
+    }
+}
+
 // What a code undoes, before SP is looked at.
 fn effect(undo: Undo, g: Regs, base: u32, stack: &[u8]) -> Undone
     ensures { λ u. ⌜ u ≡ undone g (effectOf (lent base (now (stack .entry))) undo g) ⌝ }
@@ -231,10 +243,7 @@ fn effect(undo: Undo, g: Regs, base: u32, stack: &[u8]) -> Undone
         Undo::Pop(list) => pop(list, g, base, stack),
         Undo::SpFrom(x) => moved(g, reg(g, x as usize) as u64),
         Undo::Vpop(s, e) => vpop(s, e, g, base, stack),
-        Undo::LoadLr(n) => match load(base, stack, sp) {
-            Loaded::Word(w) => moved(set_reg(g, 14, w), sp + words::stack_bytes(n)),
-            Loaded::Refused(r) => kept(g, r),
-        },
+        Undo::LoadLr(n) => load_lr(n, g, base, stack),
         Undo::Nothing => moved(g, sp),
     }
 }
@@ -278,7 +287,7 @@ fn stopped(g: Regs, r: Refusal) -> Ran
     }
 }
 
-// What the rest came to, after one code run from these registers.
+// A code run from these registers, and then what the rest came to.
 fn one_more(g: Regs, rest: Ran) -> Ran
     requires { ⌜ rest .codes < 2 ^ 63 ⌝ }
     ensures { λ x. ⌜ x ≡ oneMore g rest ⌝ }

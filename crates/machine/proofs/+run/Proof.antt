@@ -37,8 +37,18 @@ run-below t = and 2 run-kinds.ps (falls 2 run-kinds.ps _<_ μ-run t) run.Pre
 
 -- what is known of the callees
 abbrev told : ℕ → run-lts.Claims
-told t =
-    (take-at-reads.Asked, take-at-reads.Learnt, step-reads.Asked, step-reads.Learnt, stopped-reads.Asked, stopped-reads.Learnt, run-below t, run.Post, one-more-reads.Asked, one-more-reads.Learnt)
+told t = (
+  take-at-reads.Asked,
+  take-at-reads.Learnt,
+  step-reads.Asked,
+  step-reads.Learnt,
+  stopped-reads.Asked,
+  stopped-reads.Learnt,
+  run-below t,
+  run.Post,
+  one-more-reads.Asked,
+  one-more-reads.Learnt,
+)
 
 -- the code that was taken
 taken :

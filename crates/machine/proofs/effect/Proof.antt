@@ -1,10 +1,6 @@
 -- `effect` meets its contract: each case is the definition's, by what its callees give.
 -- Assumes nothing.
-use mathlib.Core.Path.{sym, _∙_}
 use borrow.Author.Needs.{needs}
-use Rattle.words.specs.Lent.{lent}
-use Rattle.machine.specs.Step.{load}
-use Rattle.machine.proofs.Answers.{loaded-word, loaded-refused}
 use Rattle.machine.proofs.effect.Statement.{statement}
 use Rattle.machine.proofs.effect.Tie as tie
 
@@ -53,35 +49,14 @@ vpop-requires c κs = search needs
 enum-known-undo-5 : tie.Need-enum-known-undo-5
 enum-known-undo-5 c = search needs
 
-load-requires : tie.Need-load-requires
-load-requires c κs = search needs
-
-enum-known-w : tie.Need-enum-known-w
-enum-known-w c = search needs
-
-set-reg-requires : tie.Need-set-reg-requires
-set-reg-requires c κs = search needs
-
-stack-bytes-requires-2 : tie.Need-stack-bytes-requires-2
-stack-bytes-requires-2 c κs = search needs
-
-add-moved-2 : tie.Need-add-moved-2
-add-moved-2 c = search needs
-
-moved-requires-3 : tie.Need-moved-requires-3
-moved-requires-3 c κs = search needs
-
-enum-known-r : tie.Need-enum-known-r
-enum-known-r c = search needs
-
-kept-requires : tie.Need-kept-requires
-kept-requires c κs = search needs
+load-lr-requires : tie.Need-load-lr-requires
+load-lr-requires c κs = search needs
 
 enum-told : tie.Need-enum-told
 enum-told c = search needs
 
-moved-requires-4 : tie.Need-moved-requires-4
-moved-requires-4 c κs = search needs
+moved-requires-3 : tie.Need-moved-requires-3
+moved-requires-3 c κs = search needs
 
 returns : tie.Need-returns
 returns c = simp (c .before .before .before .undo .given .1, c .moved .ensures, c .before .stack-bytes .ensures .0)
@@ -96,21 +71,10 @@ returns-4 : tie.Need-returns-4
 returns-4 c = simp (c .before .before .undo4 .given .1, c .vpop .ensures)
 
 returns-5 : tie.Need-returns-5
-returns-5 c =
-    let l = c .before .before .before .before .before .before in
-    let a = l .before .before .before .before .before .before .args in
-    let word = loaded-word (load (lent (a .base) (a .stack .now)) (a .g .sp)) _ (sym (l .load .ensures) ∙ c .before .before .before .before .w .given .1) in
-    rw (l .before .before .undo5 .given .1, word) (simp (c .moved3 .ensures, c .before .before .set-reg .ensures, c .before .stack-bytes2 .ensures .0))
+returns-5 c = rw (c .before .before .undo5 .given .1) (c .load-lr .ensures)
 
 returns-6 : tie.Need-returns-6
-returns-6 c =
-    let l = c .before .before .before .before in
-    let a = l .before .before .before .before .before .before .args in
-    let none = loaded-refused (load (lent (a .base) (a .stack .now)) (a .g .sp)) _ (sym (l .load .ensures) ∙ c .before .before .r .given .1) in
-    rw (l .before .before .undo5 .given .1, none) (c .kept .ensures)
-
-returns-7 : tie.Need-returns-7
-returns-7 c = simp (c .before .enum-told .given .1, c .moved4 .ensures)
+returns-6 c = simp (c .before .enum-told .given .1, c .moved3 .ensures)
 
 pub effect-spec : {M : Type 1} → statement M
 effect-spec =
@@ -131,20 +95,12 @@ effect-spec =
     enum-known-undo-4
     vpop-requires
     enum-known-undo-5
-    load-requires
-    enum-known-w
-    set-reg-requires
-    stack-bytes-requires-2
-    add-moved-2
-    moved-requires-3
-    enum-known-r
-    kept-requires
+    load-lr-requires
     enum-told
-    moved-requires-4
+    moved-requires-3
     returns
     returns-2
     returns-3
     returns-4
     returns-5
-    returns-6
-    returns-7)
+    returns-6)

@@ -1,11 +1,11 @@
 -- `pop` meets its contract. The loop's invariant: the registers and SP are what the definition's pop of the numbers passed gives. The
 -- measure is how many are left. A turn's refusal is the whole pop's.
 -- Assumes nothing.
-use Prim.Native.Nat.{_+_, _-_, _≤_}
+use Prim.Native.Nat.{_-_, _≤_}
 use mathlib.Core.Path.{_≡_, refl, sym, ap, _∙_}
 use native.Mathlib.Omega.{arith}
 use borrow.Author.Needs.{needs}
-use Rattle.words.specs.Lent.{Lent, lent}
+use Rattle.words.specs.Lent.{lent}
 use Rattle.unwinding.specs.Answer.{ok}
 use Rattle.machine.specs.Registers.{setSp}
 use Rattle.machine.specs.Step.{pop}

@@ -19,7 +19,9 @@ stack-of c = lent (c .before .before .args .base) (c .before .before .args .stac
 lower : (c : tie.After-low) → load (stack-of (c .before .before)) (c .before .before .before .before .args .sp) ≡ ok (c .low .given .0 .0)
 lower c = loaded-word _ _ (sym (c .before .before .load .ensures) ∙ c .low .given .1)
 
-higher : (c : tie.After-high) → load (stack-of (c .before .before .before .before .before .before)) (c .before .before .before .before .before .before .before .before .args .sp + 4) ≡ ok (c .high .given .0 .0)
+higher :
+    (c : tie.After-high)
+    → (let f = c .before .before .before .before .before .before in load (stack-of f) (f .before .before .args .sp + 4)) ≡ ok (c .high .given .0 .0)
 higher c = loaded-word _ _ (sym (c .before .before .load2 .ensures) ∙ c .high .given .1)
 
 load-requires : tie.Need-load-requires
@@ -69,14 +71,16 @@ unfolding popD
 returns-2 c =
     let l = c .before .before .before .before in
     let f = l .before .before .before .before in
-    simp
-    (lower (l .before .before), loaded-refused (load (stack-of f) (f .before .before .args .sp + 4)) _ (sym (l .load2 .ensures) ∙ c .before .before .r .given .1), c .kept .ensures)
+    let high =
+    loaded-refused (load (stack-of f) (f .before .before .args .sp + 4)) _ (sym (l .load2 .ensures) ∙ c .before .before .r .given .1) in
+    simp (lower (l .before .before), high, c .kept .ensures)
 
 returns-3 : tie.Need-returns-3
 unfolding popD
 returns-3 c =
     let l = c .before .before .before .before in
-    simp (loaded-refused (load (stack-of l) (l .before .before .args .sp)) _ (sym (l .load .ensures) ∙ c .before .before .r2 .given .1), c .kept2 .ensures)
+    let low = loaded-refused (load (stack-of l) (l .before .before .args .sp)) _ (sym (l .load .ensures) ∙ c .before .before .r2 .given .1) in
+    simp (low, c .kept2 .ensures)
 
 pub pop-d-spec : {M : Type 1} → statement M
 pop-d-spec =

@@ -4,7 +4,7 @@ use mathlib.Core.Path.{_≡_, sym, _∙_}
 use native.Mathlib.Omega.{arith}
 use borrow.Author.Needs.{needs}
 use Rattle.words.specs.Lent.{Lent, lent}
-use Rattle.unwinding.specs.Answer.{ok, refuse}
+use Rattle.unwinding.specs.Answer.{ok}
 use Rattle.machine.specs.Step.{load, popReg}
 use Rattle.machine.proofs.Answers.{loaded-word, loaded-refused}
 use Rattle.machine.proofs.Loading.{load-inside}
@@ -46,7 +46,8 @@ returns-2 : tie.Need-returns-2
 unfolding popReg
 returns-2 c =
     let l = c .before .before .before .before in
-    simp (loaded-refused (load (stack-of l) (l .before .before .args .sp)) _ (sym (l .load .ensures) ∙ c .before .before .r .given .1), c .kept .ensures)
+    let none = loaded-refused (load (stack-of l) (l .before .before .args .sp)) _ (sym (l .load .ensures) ∙ c .before .before .r .given .1) in
+    simp (none, c .kept .ensures)
 
 pub pop-reg-spec : {M : Type 1} → statement M
 pop-reg-spec =

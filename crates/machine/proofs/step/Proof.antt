@@ -7,7 +7,7 @@ use Rattle.unwinding.specs.Answer.{ok}
 use Rattle.machine.specs.Registers.{setSp}
 use Rattle.machine.specs.Step.{stands, effect, step}
 use Rattle.machine.proofs.Answers.{undone-given, undone-refused}
-use Rattle.machine.proofs.Standing.{Stands, stands-true}
+use Rattle.machine.proofs.Standing.{stands-true}
 use Rattle.machine.proofs.step.Statement.{statement}
 use Rattle.machine.proofs.step.Tie as tie
 

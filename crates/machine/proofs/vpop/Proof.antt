@@ -5,7 +5,7 @@ use Prim.Native.Nat.{_+_, _-_, _≤_}
 use mathlib.Core.Path.{_≡_, refl, sym, ap, _∙_}
 use native.Mathlib.Omega.{arith}
 use borrow.Author.Needs.{needs}
-use Rattle.words.specs.Lent.{Lent, lent}
+use Rattle.words.specs.Lent.{lent}
 use Rattle.unwinding.specs.Answer.{ok}
 use Rattle.machine.specs.Registers.{setSp}
 use Rattle.machine.specs.Step.{popD, vpop}
