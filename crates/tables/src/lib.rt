@@ -5,6 +5,8 @@ use words::Halfwords;
 use words::Refusal;
 use words::Verdict;
 
+pub mod pdata; // .pdata records, and the record for a pc
+
 // A .pdata record: its number in the table, its start RVA with bit 0 cleared, and its word 1.
 pub struct Entry {
     pub number: usize,
@@ -17,6 +19,12 @@ pub enum Found {
     Record(Entry),
     Nothing,
     Refused(Refusal),
+}
+
+// What finding asks of the .pdata alone: its length is a multiple of 8, its starts strictly ascend.
+pub struct Sound {
+    pub whole: bool,
+    pub ascending: bool,
 }
 
 // The fields of a packed word, as document 01 names them: Flag, length/2, Ret, H, Reg, R, L, C, Stack Adjust.
