@@ -1,2 +1,4 @@
 pub mod Opened
 pub mod Finding
+pub mod Tests
+pub mod Fields
