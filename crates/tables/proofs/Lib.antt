@@ -1,4 +1,2 @@
 pub mod Opened
 pub mod Finding
-pub mod Tests
-pub mod Fields

@@ -1,0 +1,47 @@
+-- Each call writes one piece of the list, in the definition's order. Assumes nothing.
+use mathlib.Core.Path.{sym}
+use borrow.Author.Needs.{needs}
+use Rattle.packed.proofs.Pieces.{first-written}
+use Rattle.packed.proofs.first_list.Statement.{statement}
+use Rattle.packed.proofs.first_list.Tie as tie
+
+pf-requires : tie.Need-pf-requires
+pf-requires c κs = search needs
+
+list-requires : tie.Need-list-requires
+list-requires c κs = search needs
+
+adjust-requires : tie.Need-adjust-requires
+adjust-requires c κs = search needs
+
+vpop-requires : tie.Need-vpop-requires
+vpop-requires c κs = search needs
+
+put-if-requires : tie.Need-put-if-requires
+put-if-requires c κs = search needs
+
+pop-requires : tie.Need-pop-requires
+pop-requires c κs = search needs
+
+put-if-requires-2 : tie.Need-put-if-requires-2
+put-if-requires-2 c κs = search needs
+
+put-requires : tie.Need-put-requires
+put-requires c κs = search needs
+
+returns : tie.Need-returns
+returns c = let a = c .before .before .before .before .before .before .before .before .args in rw (c .put .ensures, c .before .put-if2 .ensures, c .before .before .pop .ensures, c .before .before .before .put-if .ensures, c .before .before .before .before .vpop .ensures, c .before .before .before .before .before .adjust .ensures, c .before .before .before .before .before .before .list .ensures .0, c .before .before .before .before .before .before .before .pf .ensures) (sym (first-written (a .o) (a .p)))
+
+pub first-list-spec : {M : Type 1} → statement M
+first-list-spec =
+    tie.close
+    (tie.spec
+    pf-requires
+    list-requires
+    adjust-requires
+    vpop-requires
+    put-if-requires
+    pop-requires
+    put-if-requires-2
+    put-requires
+    returns)
