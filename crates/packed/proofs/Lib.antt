@@ -1,7 +1,3 @@
 pub mod Tests
 pub mod Words
 pub mod Registers
-pub mod Buffer
-pub mod Pieces
-pub mod Lengths
-pub mod Written

@@ -8,7 +8,7 @@ use native.Mathlib.Omega.{arith}
 use native.Mathlib.Nat.{add-mul-div-left, div-eq-of-lt, add-mul-mod-self-left, mod-eq-of-lt, zero-add, mod-add-div, div-div-eq-div-mul, div-one}
 use borrow.Author.Tests.{ltb-true, lt-ltb}
 use Rattle.words.specs.declared.Refusal.the-variants.{Reserved}
-use Rattle.unwinding.specs.Answer.{ok, refuse, need, _>>_}
+use Rattle.unwinding.specs.Answer.{ok, refuse}
 use Rattle.tables.specs.Packed.{Fit, fields, fieldsFit, allowed, wordOf, writeWord}
 use Rattle.tables.specs.declared.Packed.{Packed}
 
@@ -34,22 +34,21 @@ true-fit p f =
     rw (lt-ltb (p .flag) 4 (f .flag), lt-ltb (p .length .0) 2048 (f .length), lt-ltb (p .ret) 4 (f .ret), lt-ltb (p .h) 2 (f .h), lt-ltb (p .reg) 8 (f .reg), lt-ltb (p .r) 2 (f .r), lt-ltb (p .l) 2 (f .l), lt-ltb (p .c) 2 (f .c), lt-ltb (p .adjust) 1024 (f .adjust))
     refl
 
--- "a field too large for its bits" is refused by 4, and so is what a reader refuses
+-- what the writer takes fits
+pub writable-fit : (p : Packed) → (fieldsFit p && allowed p) ≡ true → Fit p
+writable-fit p h = fit-true p (both (fieldsFit p) (allowed p) h .0)
+
+pub write-given : (p : Packed) → (fieldsFit p && allowed p) ≡ true → writeWord p ≡ ok (wordOf p)
+unfolding writeWord
+write-given p h = rw h refl
+
+pub write-refused : (p : Packed) → (fieldsFit p && allowed p) ≡ false → writeWord p ≡ refuse Reserved
+unfolding writeWord
+write-refused p h = rw h refl
+
+-- "a field too large for its bits" is refused by 4
 pub write-large : (p : Packed) → fieldsFit p ≡ false → writeWord p ≡ refuse Reserved
-unfolding writeWord
-write-large p h = rw h refl
-
-pub write-forbidden : (p : Packed) → allowed p ≡ false → writeWord p ≡ refuse Reserved
-unfolding writeWord
-write-forbidden p h = go (fieldsFit p)
-  where
-    go : (f : Bool) → (need (f && allowed p) Reserved >> ok (wordOf p)) ≡ refuse Reserved
-    go true = rw h refl
-    go false = refl
-
-pub write-fit : (p : Packed) → fieldsFit p ≡ true → allowed p ≡ true → writeWord p ≡ ok (wordOf p)
-unfolding writeWord
-write-fit p f h = rw (f, h) refl
+write-large p h = write-refused p (rw h refl)
 
 -- a reader's fields fit
 pub fields-fit : (w : ℕ) → Fit (fields w)
@@ -119,15 +118,13 @@ word-of-fields w h =
 
 -- the writer and the reader are inverse on what they accept
 pub write-then-read : (p : Packed) (w : ℕ) → writeWord p ≡ ok w → fields w ≡ p
-unfolding writeWord
-write-then-read p w h = go (fieldsFit p) refl (allowed p) refl
+write-then-read p w h = go (fieldsFit p && allowed p) refl
   where
-    go : (f : Bool) → fieldsFit p ≡ f → (a : Bool) → allowed p ≡ a → fields w ≡ p
-    go true ef true ea =
-        let e : wordOf p ≡ w = cc (write-fit p ef ea) in
-        rw e at (fields-of-word p (fit-true p ef))
-    go true ef false ea = absurd (let z : _≡_ {A = ℕ} 0 1 = cc (write-forbidden p ea) in omega arith)
-    go false ef a ea = absurd (let z : _≡_ {A = ℕ} 0 1 = cc (write-large p ef) in omega arith)
+    go : (t : Bool) → (fieldsFit p && allowed p) ≡ t → fields w ≡ p
+    go true e =
+        let word : wordOf p ≡ w = cc (write-given p e) in
+        rw word at (fields-of-word p (writable-fit p e))
+    go false e = absurd (let z : _≡_ {A = ℕ} 0 1 = cc (write-refused p e) in omega arith)
 
 pub read-then-write : (w : ℕ) → w < 2 ^ 32 → allowed (fields w) ≡ true → writeWord (fields w) ≡ ok w
-read-then-write w h a = write-fit (fields w) (true-fit (fields w) (fields-fit w)) a ∙ ap ok (word-of-fields w h)
+read-then-write w h a = write-given (fields w) (rw (true-fit (fields w) (fields-fit w), a) refl) ∙ ap ok (word-of-fields w h)

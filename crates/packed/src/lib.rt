@@ -1,34 +1,19 @@
-// Packed words: their fields, the word's writer, and the code bytes that they stand for. It knows neither registers' values nor the stack.
-use tables::CodesOf;
+// Packed words: their fields, the word's writer, the stack adjustment and the registers that they stand for. It knows neither registers'
+// values nor the stack.
 use tables::Packed;
 use tables::WordOf;
-use words::CodeBytes;
 use words::Halfwords;
 use words::Refusal;
 use words::StackWords;
 use words::Verdict;
 ghost use mathlib.Core.Path.{_≡_};
-ghost use mathlib.Core.List.{[], _∷_};
-ghost use mathlib.Core.Bool.{true, false, _&&_, _||_, not};
+ghost use mathlib.Core.Bool.{_&&_, _||_};
 ghost use Prim.Native.Nat.{_+_, _-_, _%_, _≤_, _<_};
 ghost use lib.Dec.{ltb, eqb};
-ghost use Rattle.tables.specs.Packed.{Fit, fields as fieldsOf, fieldsFit, allowed as allowedOf, wordOf, writeWord, wordAnswer, folded as foldedOf, amount as amountOf, PF, EF};
-ghost use Rattle.tables.specs.PackedCodes.{when, integers as integersOf, upCode, vpopCode, upTo, popSized, popCode, low, firstList, leave as leaveOf, secondList, writeCodes, codesAnswer};
 ghost use Rattle.codes.specs.Table.{range};
 ghost use Rattle.unwinding.specs.Answer.{if_then_else_};
-ghost use Rattle.packed.specs.Out.{putOf, puts, topOf};
-
-// Code bytes that are being written, and how many there are.
-struct Out {
-    bytes: [u8; 16],
-    len: usize,
-}
-
-// What a list of registers is beside r4-rX.
-enum Top {
-    Register(u32),
-    Other,
-}
+ghost use Rattle.tables.specs.Packed.{Fit, fields as fieldsOf, fieldsFit, allowed as allowedOf, wordOf, writeWord, wordAnswer, folded as foldedOf, amount as amountOf, PF, EF};
+ghost use Rattle.tables.specs.PackedCodes.{integers as integersOf};
 
 // The fields of a packed word.
 pub fn fields(word: u32) -> Packed
@@ -128,25 +113,29 @@ fn word_of(p: Packed) -> u32
         + 4194304 * p.adjust
 }
 
+// Whether the writer takes these fields.
+fn writable(p: Packed) -> bool
+    ensures { λ r. ⌜ r ≡ (fieldsFit p && allowedOf p) ⌝ }
+{
+    if fields_fit(p) {
+        return allowed(p);
+    }
+    false
+}
+
 // The packed word of these fields.
 pub fn write_word(p: Packed) -> WordOf
     ensures { λ r. ⌜ r ≡ wordAnswer (writeWord p) ⌝ }
 {
-    if !fields_fit(p) {
+    if writable(p) {
         return WordOf {
-            verdict: Verdict::Refused(Refusal::Reserved),
-            word: 0,
-        };
-    }
-    if !allowed(p) {
-        return WordOf {
-            verdict: Verdict::Refused(Refusal::Reserved),
-            word: 0,
+            verdict: Verdict::Given,
+            word: word_of(p),
         };
     }
     WordOf {
-        verdict: Verdict::Given,
-        word: word_of(p),
+        verdict: Verdict::Refused(Refusal::Reserved),
+        word: 0,
     }
 }
 
@@ -226,214 +215,7 @@ fn list(p: Packed, fold: bool) -> u32
 
 // The integer list of a packed word but for LR: bit k stands for rk, and rS-r3 are in it if the adjustment is folded.
 pub fn integers(word: u32, fold: bool) -> u32
-    ensures { λ r. ⌜ r ≡ integersOf (fieldsOf word) fold ⌝ }
+    ensures { λ r. ⌜ (r ≡ integersOf (fieldsOf word) fold) × (r < 8192) ⌝ }
 {
     list(fields(word), fold)
-}
-
-// One more code byte.
-fn put(o: Out, b: u8) -> Out
-    ensures { λ r. ⌜ r ≡ putOf o b ⌝ }
-{
-    let at = o.len;
-    if 16 <= at {
-        return o;
-    }
-    let mut bytes = o.bytes;
-    bytes[at] = b;
-    Out {
-        bytes: bytes,
-        len: at + 1,
-    }
-}
-
-// A code of one byte if a bit is set.
-fn put_if(o: Out, bit: u32, b: u8) -> Out
-    ensures { λ r. ⌜ r ≡ puts o (when (eqb bit 1) (b ∷ [])) ⌝ }
-{
-    if bit == 1 {
-        return put(o, b);
-    }
-    o
-}
-
-// The code of an amount, if it is not 0: 16 bits up to 127 words.
-fn up(o: Out, amount: StackWords) -> Out
-    requires { ⌜ amount .0 < 1024 ⌝ }
-    ensures { λ r. ⌜ r ≡ puts o (upCode amount) ⌝ }
-{
-    let n = amount.0;
-    if n == 0 {
-        return o;
-    }
-    if n <= 127 {
-        return put(o, n as u8);
-    }
-    put(put(o, (0xE8 + n / 256) as u8), (n % 256) as u8)
-}
-
-// The code of the amount unless it is folded.
-fn adjust(o: Out, p: Packed, fold: bool) -> Out
-    requires { ⌜ Fit p ⌝ }
-    ensures { λ r. ⌜ r ≡ puts o (when (not fold) (upCode (amountOf p))) ⌝ }
-{
-    if fold {
-        return o;
-    }
-    up(o, amount(p))
-}
-
-// The code of d8-dE, if R=1 and Reg is not 7.
-fn vpop(o: Out, p: Packed) -> Out
-    requires { ⌜ Fit p ⌝ }
-    ensures { λ r. ⌜ r ≡ puts o (vpopCode p) ⌝ }
-{
-    if p.r != 1 {
-        return o;
-    }
-    if p.reg == 7 {
-        return o;
-    }
-    put(o, (0xE0 + p.reg) as u8)
-}
-
-// The X of a list r4-rX, among the four from x up.
-fn top_of(list: u32, x: u32) -> Top
-    requires { ⌜ (4 ≤ x) × (x < 9) ⌝ }
-    ensures { λ r. ⌜ r ≡ topOf (upTo 4 x list) ⌝ }
-{
-    if list == from_r4(x) {
-        return Top::Register(x);
-    }
-    let x1 = x + 1;
-    if list == from_r4(x1) {
-        return Top::Register(x1);
-    }
-    let x2 = x1 + 1;
-    if list == from_r4(x2) {
-        return Top::Register(x2);
-    }
-    let x3 = x2 + 1;
-    if list == from_r4(x3) {
-        return Top::Register(x3);
-    }
-    Top::Other
-}
-
-// The code of a pop of 16 bits: D0-D7 for r4-rX, else EC-ED.
-fn pop16(o: Out, list: u32, lr: u32) -> Out
-    requires { ⌜ (list < 256) × (lr < 2) ⌝ }
-    ensures { λ r. ⌜ r ≡ puts o (popSized true list lr) ⌝ }
-{
-    match top_of(list, 4) {
-        Top::Register(x) => put(o, (0xD0 + x % 4 + 4 * lr) as u8),
-        Top::Other => put(put(o, (0xEC + lr) as u8), list as u8),
-    }
-}
-
-// The code of a pop of 32 bits: D8-DF for r4-rX, else 80-BF.
-fn pop32(o: Out, list: u32, lr: u32) -> Out
-    requires { ⌜ (list < 8192) × (lr < 2) ⌝ }
-    ensures { λ r. ⌜ r ≡ puts o (popSized false list lr) ⌝ }
-{
-    match top_of(list, 8) {
-        Top::Register(x) => put(o, (0xD8 + x % 4 + 4 * lr) as u8),
-        Top::Other => put(
-            put(o, (0x80 + list / 256 + 32 * lr) as u8),
-            (list % 256) as u8,
-        ),
-    }
-}
-
-// The code of a pop, if the list is not empty.
-fn pop(o: Out, narrow: bool, list: u32, lr: u32) -> Out
-    requires { ⌜ (list < 8192) × (lr < 2) × (narrow ≡ true → list < 256) ⌝ }
-    ensures { λ r. ⌜ r ≡ puts o (popCode narrow list lr) ⌝ }
-{
-    if list + lr == 0 {
-        return o;
-    }
-    if narrow {
-        return pop16(o, list, lr);
-    }
-    pop32(o, list, lr)
-}
-
-// The prologue's codes in reverse, then FF.
-fn first_list(o: Out, p: Packed) -> Out
-    requires { ⌜ Fit p ⌝ }
-    ensures { λ r. ⌜ r ≡ puts o (firstList p) ⌝ }
-{
-    let fold = pf(p);
-    let registers = list(p, fold);
-    let o = put_if(vpop(adjust(o, p, fold), p), p.c, 0xFC);
-    let o = pop(o, registers < 256, registers, p.l);
-    put(put_if(o, p.h, 0x04), 0xFF)
-}
-
-// Whether a pop is of 16 bits: one with LR is of 32.
-fn narrow(list: u32, lr: u32) -> bool
-    ensures { λ r. ⌜ r ≡ (low list && eqb lr 0) ⌝ }
-{
-    if list < 256 {
-        return lr == 0;
-    }
-    false
-}
-
-// The pop and the return at the end of an epilogue.
-fn leave(o: Out, p: Packed, registers: u32) -> Out
-    requires { ⌜ Fit p × (registers < 8192) ⌝ }
-    ensures { λ r. ⌜ r ≡ puts o (leaveOf p registers) ⌝ }
-{
-    if both(p.h, 1, p.l, 1) {
-        let o = pop(o, registers < 256, registers, 0);
-        return put(put(put(o, 0xEF), 0x05), 0xFF);
-    }
-    if p.ret == 0 {
-        return put(pop(o, registers < 256, registers, p.l), 0xFF);
-    }
-    let o = pop(o, narrow(registers, p.l), registers, p.l);
-    put(put_if(o, p.h, 0x04), (0xFC + p.ret) as u8)
-}
-
-// The epilogue's codes, unless Ret=3.
-fn second_list(o: Out, p: Packed) -> Out
-    requires { ⌜ Fit p ⌝ }
-    ensures { λ r. ⌜ r ≡ puts o (secondList p) ⌝ }
-{
-    if p.ret == 3 {
-        return o;
-    }
-    let fold = ef(p);
-    leave(vpop(adjust(o, p, fold), p), p, list(p, fold))
-}
-
-// The code bytes of a packed word: first list, second list, the rest 0, and both lengths.
-pub fn write_codes(word: u32) -> CodesOf
-    ensures { λ r. ⌜ r ≡ codesAnswer (writeCodes word) ⌝ }
-{
-    let p = fields(word);
-    let blank = Out {
-        bytes: [0u8; 16],
-        len: 0,
-    };
-    if !allowed(p) {
-        let bytes = blank.bytes;
-        return CodesOf {
-            verdict: Verdict::Refused(Refusal::Reserved),
-            bytes: bytes,
-            first: CodeBytes(0),
-            second: CodeBytes(0),
-        };
-    }
-    let one = first_list(blank, p);
-    let two = second_list(one, p);
-    let bytes = two.bytes;
-    CodesOf {
-        verdict: Verdict::Given,
-        bytes: bytes,
-        first: CodeBytes(one.len),
-        second: CodeBytes(two.len - one.len),
-    }
 }
