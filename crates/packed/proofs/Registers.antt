@@ -1,13 +1,19 @@
--- The two tables of register lists: the entry at k is the rule's value there, for each k at once.
+-- Lists of registers: the two tables' entries are the rule's values, each at once, and every list has at most 13 bits.
 -- Assumes nothing.
-use Prim.Native.Nat.{ℕ, zero, suc, _+_, _-_, _^_, _≤_, _<_}
+use Prim.Native.Nat.{ℕ, zero, suc, _+_, _-_, _*_, _%_, _^_, _≤_, _<_}
 use mathlib.Core.Path.{_≡_, sym, ap, _∙_}
 use mathlib.Core.List.{List, [], _∷_}
+use mathlib.Core.Bool.{Bool, true, false}
 use lib.ListN.{getD}
 use lib.Pow.{pow-mono, pow-pos}
+use lib.Dec.{eqb}
 use native.Mathlib.Nat.{add-zero, zero-add, add-suc, suc-add, le-of-suc-le-suc, not-suc-le-zero}
 use native.Mathlib.Omega.{arith}
+use Rattle.unwinding.specs.Answer.{if_then_else_}
 use Rattle.codes.specs.Table.{range}
+use Rattle.tables.specs.Packed.{Fit}
+use Rattle.tables.specs.PackedCodes.{integers}
+use Rattle.tables.specs.declared.Packed.{Packed}
 
 -- g at i and the n - 1 numbers after it
 abbrev tab : (ℕ → ℕ) → ℕ → ℕ → List ℕ
@@ -36,3 +42,16 @@ range-r4 x h = let l : x + 1 ≤ 12 = omega arith in let m : 2 ^ (x + 1) ≤ 2 ^
 
 pub range-r3 : (k : ℕ) → range (3 - k) 3 < 16
 range-r3 k = let m : 1 ≤ 2 ^ (3 - k) = pow-pos (3 - k) in omega arith
+
+-- no list has more than r0 to r12
+pub integers-small : (p : Packed) (fold : Bool) → Fit p → integers p fold < 8192
+integers-small p fold f = go (eqb (p .r) 0) fold
+  where
+    saved : range 4 (4 + p .reg) < 4096
+    saved = range-r4 (4 + p .reg) (omega (arith, f .reg))
+
+    go : (s t : Bool) → (if s then range 4 (4 + p .reg) else 0) + (if t then range (3 - p .adjust % 4) 3 else 0) + p .c * 2 ^ 11 < 8192
+    go true true = omega (arith, saved, range-r3 (p .adjust % 4), f .c)
+    go true false = omega (arith, saved, f .c)
+    go false true = omega (arith, range-r3 (p .adjust % 4), f .c)
+    go false false = omega (arith, f .c)

@@ -2,3 +2,4 @@ pub mod Buffer
 pub mod Pieces
 pub mod Lengths
 pub mod Written
+pub mod Decoding
