@@ -5,7 +5,7 @@ use mathlib.Core.Path.{_≡_, refl, ap, _∙_}
 use mathlib.Core.Bool.{Bool, true, false, _&&_}
 use mathlib.Core.List.{List, map}
 use mathlib.Core.Option.{none, some}
-use lib.ListN.{length, List·getD-eq-default}
+use lib.ListN.{length}
 use lib.Dec.{ltb, eqb}
 use native.Mathlib.Omega.{arith}
 use borrow.Author.Tests.{ltb-true, lt-ltb, le-ltb, le-leb, lt-leb}
@@ -15,15 +15,6 @@ use Rattle.words.specs.declared.Refusal.the-variants.{UnfitInput, PcBelowBase, 
 use Rattle.unwinding.specs.Answer.{ok, refuse}
 use Rattle.unwinding.specs.View.{ascending}
 use Rattle.tables.specs.Pdata.{entriesFrom, entries, entryAt, starts, lastUpTo, find}
-
--- no word stands past the last record and what is left of it
-pub word-past : (s : List ℕ) (i k : ℕ) → length s / 8 < i → 0 ≡ word32 s (8 * i + k)
-word-past s i k h =
-    let b0 = List·getD-eq-default s 0 {n = 8 * i + k} (omega arith) in
-    let b1 = List·getD-eq-default s 0 {n = 8 * i + k + 1} (omega arith) in
-    let b2 = List·getD-eq-default s 0 {n = 8 * i + k + 2} (omega arith) in
-    let b3 = List·getD-eq-default s 0 {n = 8 * i + k + 2 + 1} (omega arith) in
-    omega (arith, b0, b1, b2, b3)
 
 abbrev pub startAt : List ℕ → ℕ → ℕ
 startAt s i = even (word32 s (8 * i))

@@ -4,7 +4,7 @@ use mathlib.Core.Path.{_∙_}
 use native.Mathlib.Omega.{arith}
 use borrow.Author.Needs.{needs}
 use Rattle.packed.proofs.Registers.{to-r3, range-r3}
-use Rattle.packed.proofs.Tests.{if-true}
+use Rattle.tables.proofs.Tests.{if-true}
 use Rattle.packed.proofs.homed.Statement.{statement}
 use Rattle.packed.proofs.homed.Tie as tie
 

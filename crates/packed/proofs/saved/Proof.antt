@@ -6,7 +6,7 @@ use borrow.Author.Tests.{eq-eqb, ne-eqb}
 use borrow.Author.Needs.{needs}
 use Rattle.codes.specs.Table.{range}
 use Rattle.packed.proofs.Registers.{from-r4}
-use Rattle.packed.proofs.Tests.{if-true, if-false}
+use Rattle.tables.proofs.Tests.{if-true, if-false}
 use Rattle.packed.proofs.saved.Statement.{statement}
 use Rattle.packed.proofs.saved.Tie as tie
 

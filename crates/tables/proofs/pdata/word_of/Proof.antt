@@ -1,11 +1,13 @@
 -- Past the records no word stands; up to there 8 x i does not wrap. Assumes nothing.
+use Prim.Native.Nat.{_+_, _*_}
+use native.Mathlib.Omega.{arith}
 use borrow.Author.Needs.{needs}
-use Rattle.tables.proofs.Finding.{word-past}
+use Rattle.tables.proofs.Past.{word-past}
 use Rattle.tables.proofs.pdata.word_of.Statement.{statement}
 use Rattle.tables.proofs.pdata.word_of.Tie as tie
 
 returns : tie.Need-returns
-returns c = let a = c .before .before .args in word-past (a .pdata .now) (a .i) (a .k) (c .if1 .taken)
+returns c = let a = c .before .before .args in word-past (a .pdata .now) (8 * a .i + a .k) (omega arith)
 
 mul-word32 : tie.Need-mul-word32
 mul-word32 c = search needs
