@@ -2,3 +2,8 @@ pub mod Opened
 pub mod At
 pub mod Page
 pub mod Order
+pub mod Tests
+pub mod Past
+pub mod Finding
+pub mod Heads
+pub mod Shapes

@@ -3,3 +3,4 @@ pub mod Packed
 pub mod PackedCodes
 pub mod Xdata
 pub mod Record
+pub mod Plan

@@ -4,7 +4,7 @@
 --  | Stack Adjust | C| L| R| Reg  | H|  Ret | length / 2 | Flag |
 --
 -- Flag 1: packed; 2: packed without prologue.
-use Prim.Native.Nat.{ℕ, _+_, _*_, _%_, _^_}
+use Prim.Native.Nat.{ℕ, _+_, _*_, _%_, _^_, _<_}
 use mathlib.Core.Bool.{Bool, _&&_, _||_, not}
 use lib.Dec.{leb, ltb, eqb}
 use Rattle.words.specs.declared.StackWords.{StackWords}
@@ -59,3 +59,15 @@ PF p = folded p && bit 2 (p .adjust)
 
 abbrev pub EF : Packed → Bool
 EF p = folded p && bit 3 (p .adjust)
+
+-- each field below what its bits hold
+pub record Fit (p : Packed) : Type 0 where
+  pub flag : p .flag < 2 ^ 2
+  pub length : p .length .0 < 2 ^ 11
+  pub ret : p .ret < 2 ^ 2
+  pub h : p .h < 2
+  pub reg : p .reg < 2 ^ 3
+  pub r : p .r < 2
+  pub l : p .l < 2
+  pub c : p .c < 2
+  pub adjust : p .adjust < 2 ^ 10

@@ -11,6 +11,7 @@ use Rattle.unwinding.specs.Answer.{Res, ok, _>>=_, _>>_, need, if_then_else_, e
 use Rattle.unwinding.specs.View.{ascending}
 use Rattle.tables.specs.declared.Entry.{Entry}
 use Rattle.tables.specs.declared.Found.{Found}
+use Rattle.tables.specs.declared.Sound.{Sound}
 use Rattle.tables.specs.declared.Found.the-variants.{Record, Nothing, Refused}
 
 -- n records, the first of which has this number
@@ -37,3 +38,14 @@ find image s pc = do
 
 abbrev pub found : Res (Option Entry) → Found
 found r = either r Refused (λ e. maybe e Nothing Record)
+
+-- the record of a number
+abbrev pub entryAt : List ℕ → ℕ → Entry
+entryAt s i = record { number = i; start = even (word32 s (8 * i)); word = word32 s (8 * i + 4) }
+
+abbrev pub starts : List ℕ → List ℕ
+starts s = map (λ e. e .start) (entries s)
+
+-- what finding asks of the table alone, and so once for a walk: 1 for its length and 3
+abbrev pub sound : List ℕ → Sound
+sound s = record { whole = eqb (length s % 8) 0; ascending = ascending (starts s) }

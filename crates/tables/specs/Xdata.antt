@@ -15,6 +15,7 @@ use Rattle.words.specs.Units.{codeWordBytes}
 use Rattle.words.specs.declared.Refusal.the-variants.{UnfitInput, Reserved, OutsideXdata}
 use Rattle.unwinding.specs.Answer.{Res, ok, _>>=_, _>>_, need, if_then_else_, verdict, orElse}
 use Rattle.tables.specs.declared.Head.{Head}
+use Rattle.tables.specs.declared.HeadRead.{HeadRead}
 use Rattle.tables.specs.declared.SizeOf.{SizeOf}
 
 -- 1: "xdata RVA, not a multiple of 4"; "xdata end above 2^32"
@@ -73,3 +74,18 @@ xdataSize x a = do
 
 abbrev pub sizeAnswer : Res ℕ → SizeOf
 sizeAnswer r = record { verdict = verdict r; bytes = orElse r 0 }
+
+-- a head that was read; all 0 where it is refused
+abbrev pub headRead : Res Head → HeadRead
+headRead r = record { verdict = verdict r; head = orElse r (record { word = 0; bytes = 0; count = 0; codewords = 0 }) }
+
+-- what is left to ask of a head: "whole record 5"
+abbrev pub wholeRecord : Lent → ℕ → Head → Res Head
+wholeRecord x a h = do
+  need (holds x a (recordBytes h)) OutsideXdata
+  ok h
+
+abbrev pub longRecord : Lent → (at word : ℕ) → Res Head
+longRecord x a w = do
+  h ← longHead x a w
+  wholeRecord x a h

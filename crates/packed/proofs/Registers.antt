@@ -1,0 +1,57 @@
+-- Lists of registers: the two tables' entries are the rule's values, each at once, and every list has at most 13 bits.
+-- Assumes nothing.
+use Prim.Native.Nat.{ℕ, zero, suc, _+_, _-_, _*_, _%_, _^_, _≤_, _<_}
+use mathlib.Core.Path.{_≡_, sym, ap, _∙_}
+use mathlib.Core.List.{List, [], _∷_}
+use mathlib.Core.Bool.{Bool, true, false}
+use lib.ListN.{getD}
+use lib.Pow.{pow-mono, pow-pos}
+use lib.Dec.{eqb}
+use native.Mathlib.Nat.{add-zero, zero-add, add-suc, suc-add, le-of-suc-le-suc, not-suc-le-zero}
+use native.Mathlib.Omega.{arith}
+use Rattle.unwinding.specs.Answer.{if_then_else_}
+use Rattle.codes.specs.Table.{range}
+use Rattle.tables.specs.Packed.{Fit}
+use Rattle.tables.specs.PackedCodes.{integers}
+use Rattle.tables.specs.declared.Packed.{Packed}
+
+-- g at i and the n - 1 numbers after it
+abbrev tab : (ℕ → ℕ) → ℕ → ℕ → List ℕ
+tab g i zero = []
+tab g i (suc n) = g i ∷ tab g (suc i) n
+
+from : (g : ℕ → ℕ) (i n k : ℕ) → k < n → getD (tab g i n) k 0 ≡ g (i + k)
+from g i zero k h = absurd (not-suc-le-zero h)
+from g i (suc n) zero h = ap g (sym (add-zero i))
+from g i (suc n) (suc k) h = from g (suc i) n k (le-of-suc-le-suc h) ∙ ap g (suc-add i k ∙ sym (add-suc i k))
+
+tab-at : (g : ℕ → ℕ) (n k : ℕ) → k < n → getD (tab g 0 n) k 0 ≡ g k
+tab-at g n k h = from g 0 n k h ∙ ap g (zero-add k)
+
+pub from-r4 : (x : ℕ) → 4 ≤ x → x < 12 → getD (tab (λ k. range 4 (4 + k)) 0 8) (x - 4) 0 ≡ range 4 x
+from-r4 x h k =
+    let e : 4 + (x - 4) ≡ x = omega arith in
+    tab-at (λ k. range 4 (4 + k)) 8 (x - 4) (omega arith) ∙ ap (range 4) e
+
+pub to-r3 : (k : ℕ) → k < 4 → getD (tab (λ k. range (3 - k) 3) 0 4) k 0 ≡ range (3 - k) 3
+to-r3 k h = tab-at (λ k. range (3 - k) 3) 4 k h
+
+-- r4 to r11 are twelve bits, r0 to r3 four
+pub range-r4 : (x : ℕ) → x < 12 → range 4 x < 4096
+range-r4 x h = let l : x + 1 ≤ 12 = omega arith in let m : 2 ^ (x + 1) ≤ 2 ^ 12 = pow-mono l in omega arith
+
+pub range-r3 : (k : ℕ) → range (3 - k) 3 < 16
+range-r3 k = let m : 1 ≤ 2 ^ (3 - k) = pow-pos (3 - k) in omega arith
+
+-- no list has more than r0 to r12
+pub integers-small : (p : Packed) (fold : Bool) → Fit p → integers p fold < 8192
+integers-small p fold f = go (eqb (p .r) 0) fold
+  where
+    saved : range 4 (4 + p .reg) < 4096
+    saved = range-r4 (4 + p .reg) (omega (arith, f .reg))
+
+    go : (s t : Bool) → (if s then range 4 (4 + p .reg) else 0) + (if t then range (3 - p .adjust % 4) 3 else 0) + p .c * 2 ^ 11 < 8192
+    go true true = omega (arith, saved, range-r3 (p .adjust % 4), f .c)
+    go true false = omega (arith, saved, f .c)
+    go false true = omega (arith, range-r3 (p .adjust % 4), f .c)
+    go false false = omega (arith, f .c)

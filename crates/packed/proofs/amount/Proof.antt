@@ -1,0 +1,23 @@
+-- By the test that the definition makes. Assumes nothing.
+use Prim.Native.Nat.{_+_, _%_}
+use mathlib.Core.Path.{sym, ap, _∙_}
+use borrow.Author.Needs.{needs}
+use Rattle.words.specs.Units.{stackWords}
+use Rattle.tables.proofs.Tests.{if-true, if-false}
+use Rattle.packed.proofs.amount.Statement.{statement}
+use Rattle.packed.proofs.amount.Tie as tie
+
+folded-requires : tie.Need-folded-requires
+folded-requires c κs = search needs
+
+add-t5 : tie.Need-add-t5
+add-t5 c = search needs
+
+returns : tie.Need-returns
+returns c = let p = c .before .before .before .args .p in ap stackWords (if-true _ (p .adjust) (sym (c .before .before .folded .ensures) ∙ c .before .if1 .taken))
+
+returns-2 : tie.Need-returns-2
+returns-2 c = let p = c .before .before .args .p in ap stackWords (if-false (p .adjust % 4 + 1) _ (sym (c .before .folded .ensures) ∙ c .if1 .left))
+
+pub amount-spec : {M : Type 1} → statement M
+amount-spec = tie.close (tie.spec folded-requires add-t5 returns returns-2)

@@ -1,0 +1,19 @@
+-- The fields of a word fit, and its list is theirs. Assumes nothing.
+use mathlib.Core.Path.{ap, _∙_}
+use borrow.Author.Needs.{needs}
+use Rattle.tables.specs.PackedCodes.{integers as integersOf}
+use Rattle.packed.proofs.Words.{fields-fit}
+use Rattle.packed.proofs.integers.Statement.{statement}
+use Rattle.packed.proofs.integers.Tie as tie
+
+fields-requires : tie.Need-fields-requires
+fields-requires c κs = search needs
+
+list-requires : tie.Need-list-requires
+list-requires c κs = rw (c .fields .ensures) (fields-fit (c .before .args .word))
+
+returns : tie.Need-returns
+returns c = let a = c .before .before .args in (c .list .ensures .0 ∙ ap (λ p. integersOf p (a .fold)) (c .before .fields .ensures), c .list .ensures .1)
+
+pub integers-spec : {M : Type 1} → statement M
+integers-spec = tie.close (tie.spec fields-requires list-requires returns)

@@ -1,0 +1,5 @@
+pub mod Buffer
+pub mod Pieces
+pub mod Lengths
+pub mod Written
+pub mod Decoding

@@ -1,0 +1,48 @@
+-- What the code writer has written: both lists, then zeros, and both lengths.
+-- Assumes nothing.
+use Prim.Native.Nat.{ℕ, _+_, _-_, _≤_}
+use mathlib.Core.Path.{_≡_, refl, sym, ap, _∙_}
+use mathlib.Core.List.{[], _++_}
+use mathlib.Core.Bool.{true, false}
+use lib.ListN.{length, take, replicate, length-append}
+use native.Mathlib.Omega.{arith}
+use Rattle.words.specs.Units.{codeBytes}
+use Rattle.words.specs.declared.Refusal.the-variants.{Reserved}
+use Rattle.words.specs.declared.Verdict.the-variants.{Given}
+use Rattle.unwinding.specs.Answer.{ok, refuse}
+use Rattle.tables.specs.Packed.{fields, allowed}
+use Rattle.tables.specs.PackedCodes.{firstList, secondList, written, writeCodes}
+use Rattle.tables.specs.declared.Packed.{Packed}
+use Rattle.packed_codes.specs.Out.{blank, puts}
+use Rattle.packed_codes.specs.declared.Out.{Out}
+use Rattle.packed_codes.proofs.Buffer.{holding, puts-holding, holding-bytes}
+use Rattle.packed_codes.proofs.Lengths.{lists-fit}
+
+pub codes-refused : (w : ℕ) → allowed (fields w) ≡ false → writeCodes w ≡ refuse Reserved
+unfolding writeCodes
+codes-refused w h = rw h refl
+
+pub codes-given : (w : ℕ) → allowed (fields w) ≡ true → writeCodes w ≡ ok (written (fields w))
+unfolding writeCodes
+codes-given w h = rw h refl
+
+-- both lists on a blank
+module _ (p : Packed) (one two : Out) (e : one ≡ puts blank (firstList p)) (f : two ≡ puts one (secondList p)) where
+  pub first-out : one ≡ holding (firstList p)
+  first-out = e ∙ puts-holding [] (firstList p) (omega (arith, lists-fit p))
+
+  pub second-out : two ≡ holding (firstList p ++ secondList p)
+  second-out = f ∙ ap (λ o. puts o (secondList p)) first-out ∙ puts-holding (firstList p) (secondList p) (lists-fit p)
+
+  lengths : two .len ≡ one .len + length (secondList p)
+  lengths = ap (λ o. o .len) second-out ∙ length-append (firstList p) (secondList p) ∙ ap (λ n. n + length (secondList p)) (sym (ap (λ o. o .len) first-out))
+
+  pub second-longer : one .len ≤ two .len
+  second-longer = omega (arith, lengths)
+
+  pub codes-written :
+      record { verdict = Given; bytes = two .bytes; first = codeBytes (one .len); second = codeBytes (two .len - one .len) } ≡ written p
+  codes-written =
+      let all : two .bytes ≡ take 16 (firstList p ++ secondList p ++ replicate 16 0) = ap (λ o. o .bytes) second-out ∙ sym (holding-bytes (firstList p ++ secondList p) (omega (arith, length-append (firstList p) (secondList p), lists-fit p))) in
+      let second : two .len - one .len ≡ length (secondList p) = omega (arith, lengths) in
+      λ i. record { verdict = Given; bytes = all i; first = codeBytes (first-out i .len); second = codeBytes (second i) }

@@ -1,0 +1,21 @@
+-- A byte is set at the place of the length, while there is room. Assumes nothing.
+use mathlib.Core.Path.{sym}
+use borrow.Author.Needs.{needs}
+use Rattle.packed_codes.proofs.Buffer.{put-room, put-full}
+use Rattle.packed_codes.proofs.put.Statement.{statement}
+use Rattle.packed_codes.proofs.put.Tie as tie
+
+returns : tie.Need-returns
+returns c = let a = c .before .args in sym (put-full (a .o) (a .b) (c .if1 .taken))
+
+array-write-bytes : tie.Need-array-write-bytes
+array-write-bytes c = search needs
+
+add-t9 : tie.Need-add-t9
+add-t9 c = search needs
+
+returns-2 : tie.Need-returns-2
+returns-2 c = let a = c .before .before .args in sym (put-room (a .o) (a .b) (c .before .if1 .left))
+
+pub put-spec : {M : Type 1} → statement M
+put-spec = tie.close (tie.spec returns array-write-bytes add-t9 returns-2)

@@ -1,0 +1,54 @@
+-- By the amount: nothing, one byte, or two. Assumes nothing.
+use Prim.Native.Nat.{_+_, _/_, _%_}
+use mathlib.Core.Path.{sym, ap, _∙_}
+use borrow.Author.Needs.{needs}
+use Rattle.packed_codes.specs.Out.{putOf, puts}
+use Rattle.packed_codes.proofs.Pieces.{up-none, up-low, up-high}
+use Rattle.packed_codes.proofs.Buffer.{puts-none, puts-one, puts-two}
+use Rattle.packed_codes.proofs.up.Statement.{statement}
+use Rattle.packed_codes.proofs.up.Tie as tie
+
+returns : tie.Need-returns
+returns c = let a = c .before .args in sym (puts-none (a .o)) ∙ ap (puts (a .o)) (sym (up-none (a .amount .0) (c .if1 .taken)))
+
+cast-put : tie.Need-cast-put
+cast-put c = search needs
+
+put-requires : tie.Need-put-requires
+put-requires c κs = search needs
+
+returns-2 : tie.Need-returns-2
+returns-2 c = let a = c .before .before .before .args in let n = a .amount .0 in c .put .ensures ∙ sym (puts-one (a .o) n) ∙ ap (puts (a .o)) (sym (up-low n (c .before .before .if1 .left) (c .before .if2 .taken)))
+
+add-put : tie.Need-add-put
+add-put c = search needs
+
+cast-put-2 : tie.Need-cast-put-2
+cast-put-2 c = search needs
+
+put-requires-2 : tie.Need-put-requires-2
+put-requires-2 c κs = search needs
+
+cast-put-3 : tie.Need-cast-put-3
+cast-put-3 c = search needs
+
+put-requires-3 : tie.Need-put-requires-3
+put-requires-3 c κs = search needs
+
+returns-3 : tie.Need-returns-3
+returns-3 c = let a = c .before .before .before .before .args in let n = a .amount .0 in c .put3 .ensures ∙ ap (λ o. putOf o (n % 256)) (c .before .put2 .ensures) ∙ sym (puts-two (a .o) (0xE8 + n / 256) (n % 256)) ∙ ap (puts (a .o)) (sym (up-high n (c .before .before .if2 .left)))
+
+pub up-spec : {M : Type 1} → statement M
+up-spec =
+    tie.close
+    (tie.spec
+    returns
+    cast-put
+    put-requires
+    returns-2
+    add-put
+    cast-put-2
+    put-requires-2
+    cast-put-3
+    put-requires-3
+    returns-3)

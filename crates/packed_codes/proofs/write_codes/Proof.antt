@@ -1,0 +1,27 @@
+-- By whether the word is allowed: both lists of its fields, or refused. Assumes nothing.
+use mathlib.Core.Path.{sym, ap, _∙_}
+use borrow.Author.Needs.{needs}
+use Rattle.tables.specs.PackedCodes.{codesAnswer}
+use Rattle.tables.specs.Packed.{allowed}
+use Rattle.packed_codes.proofs.Written.{codes-refused, codes-given}
+use Rattle.packed_codes.proofs.write_codes.Statement.{statement}
+use Rattle.packed_codes.proofs.write_codes.Tie as tie
+
+fields-requires : tie.Need-fields-requires
+fields-requires c κs = search needs
+
+allowed-requires : tie.Need-allowed-requires
+allowed-requires c κs = search needs
+
+both-lists-requires : tie.Need-both-lists-requires
+both-lists-requires c κs = search needs
+
+returns : tie.Need-returns
+returns c = let a = c .before .before .before .before .args in c .both-lists .ensures ∙ ap codesAnswer (sym (codes-given (a .word) (sym (ap allowed (c .before .before .before .fields .ensures)) ∙ sym (c .before .before .allowed .ensures) ∙ c .before .if1 .taken)))
+
+returns-2 : tie.Need-returns-2
+returns-2 c = let a = c .before .before .before .args in ap codesAnswer (sym (codes-refused (a .word) (sym (ap allowed (c .before .before .fields .ensures)) ∙ sym (c .before .allowed .ensures) ∙ c .if1 .left)))
+
+pub write-codes-spec : {M : Type 1} → statement M
+write-codes-spec =
+    tie.close (tie.spec fields-requires allowed-requires both-lists-requires returns returns-2)

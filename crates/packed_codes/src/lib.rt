@@ -1,0 +1,275 @@
+// The code bytes that a packed word stands for: the prologue's codes in reverse, and the epilogue's. It knows neither registers' values
+// nor the stack.
+use packed::allowed;
+use packed::amount;
+use packed::ef;
+use packed::fields;
+use packed::integers;
+use packed::pf;
+use tables::CodesOf;
+use tables::Packed;
+use words::CodeBytes;
+use words::Refusal;
+use words::StackWords;
+use words::Verdict;
+ghost use mathlib.Core.Path.{_≡_};
+ghost use mathlib.Core.List.{[], _∷_, _++_};
+ghost use mathlib.Core.Bool.{true, false, _&&_, not};
+ghost use Prim.Native.Nat.{_+_, _<_};
+ghost use lib.Dec.{eqb};
+ghost use Rattle.tables.specs.Packed.{Fit, fields as fieldsOf, amount as amountOf};
+ghost use Rattle.tables.specs.PackedCodes.{when, upCode, vpopCode, upTo, popSized, popCode, low, firstList, leave as leaveOf, secondList, written, writeCodes, codesAnswer};
+ghost use Rattle.packed_codes.specs.Out.{putOf, puts, topOf};
+
+// Code bytes that are being written, and how many there are.
+struct Out {
+    bytes: [u8; 16],
+    len: usize,
+}
+
+// What a list of registers is beside r4-rX.
+enum Top {
+    Register(u32),
+    Other,
+}
+
+// One more code byte.
+fn put(o: Out, b: u8) -> Out
+    ensures { λ r. ⌜ r ≡ putOf o b ⌝ }
+{
+    let at = o.len;
+    if 16 <= at {
+        return o;
+    }
+    let mut bytes = o.bytes;
+    bytes[at] = b;
+    Out {
+        bytes: bytes,
+        len: at + 1,
+    }
+}
+
+// A code of one byte if a bit is set.
+fn put_if(o: Out, bit: u32, b: u8) -> Out
+    ensures { λ r. ⌜ r ≡ puts o (when (eqb bit 1) (b ∷ [])) ⌝ }
+{
+    if bit == 1 {
+        return put(o, b);
+    }
+    o
+}
+
+// The code of an amount, if it is not 0: 16 bits up to 127 words.
+fn up(o: Out, amount: StackWords) -> Out
+    requires { ⌜ amount .0 < 1024 ⌝ }
+    ensures { λ r. ⌜ r ≡ puts o (upCode amount) ⌝ }
+{
+    let n = amount.0;
+    if n == 0 {
+        return o;
+    }
+    if n <= 127 {
+        return put(o, n as u8);
+    }
+    put(put(o, (0xE8 + n / 256) as u8), (n % 256) as u8)
+}
+
+// The code of the amount unless it is folded.
+fn adjust(o: Out, p: Packed, fold: bool) -> Out
+    requires { ⌜ Fit p ⌝ }
+    ensures { λ r. ⌜ r ≡ puts o (when (not fold) (upCode (amountOf p))) ⌝ }
+{
+    if fold {
+        return o;
+    }
+    up(o, amount(p))
+}
+
+// The code of d8-dE, if R=1 and Reg is not 7.
+fn vpop(o: Out, p: Packed) -> Out
+    requires { ⌜ Fit p ⌝ }
+    ensures { λ r. ⌜ r ≡ puts o (vpopCode p) ⌝ }
+{
+    if p.r != 1 {
+        return o;
+    }
+    if p.reg == 7 {
+        return o;
+    }
+    put(o, (0xE0 + p.reg) as u8)
+}
+
+// The X of a list r4-rX for X = 4, 5, 6, 7.
+fn top_low(list: u32) -> Top
+    ensures { λ r. ⌜ r ≡ topOf (upTo 4 4 list) ⌝ }
+{
+    match list {
+        0x10 => Top::Register(4),
+        0x30 => Top::Register(5),
+        0x70 => Top::Register(6),
+        0xF0 => Top::Register(7),
+        _ => Top::Other,
+    }
+}
+
+// The X of a list r4-rX for X = 8, 9, 10, 11.
+fn top_high(list: u32) -> Top
+    ensures { λ r. ⌜ r ≡ topOf (upTo 4 8 list) ⌝ }
+{
+    match list {
+        0x1F0 => Top::Register(8),
+        0x3F0 => Top::Register(9),
+        0x7F0 => Top::Register(10),
+        0xFF0 => Top::Register(11),
+        _ => Top::Other,
+    }
+}
+
+// The code of a pop of 16 bits: D0-D7 for r4-rX, else EC-ED.
+fn pop16(o: Out, list: u32, lr: u32) -> Out
+    requires { ⌜ (list < 256) × (lr < 2) ⌝ }
+    ensures { λ r. ⌜ r ≡ puts o (popSized true list lr) ⌝ }
+{
+    match top_low(list) {
+        Top::Register(x) => put(o, (0xD0 + x % 4 + 4 * lr) as u8),
+        Top::Other => put(put(o, (0xEC + lr) as u8), list as u8),
+    }
+}
+
+// The code of a pop of 32 bits: D8-DF for r4-rX, else 80-BF.
+fn pop32(o: Out, list: u32, lr: u32) -> Out
+    requires { ⌜ (list < 8192) × (lr < 2) ⌝ }
+    ensures { λ r. ⌜ r ≡ puts o (popSized false list lr) ⌝ }
+{
+    match top_high(list) {
+        Top::Register(x) => put(o, (0xD8 + x % 4 + 4 * lr) as u8),
+        Top::Other => put(
+            put(o, (0x80 + list / 256 + 32 * lr) as u8),
+            (list % 256) as u8,
+        ),
+    }
+}
+
+// The code of a pop, if the list is not empty.
+fn pop(o: Out, narrow: bool, list: u32, lr: u32) -> Out
+    requires { ⌜ (list < 8192) × (lr < 2) × (narrow ≡ true → list < 256) ⌝ }
+    ensures { λ r. ⌜ r ≡ puts o (popCode narrow list lr) ⌝ }
+{
+    if list + lr == 0 {
+        return o;
+    }
+    if narrow {
+        return pop16(o, list, lr);
+    }
+    pop32(o, list, lr)
+}
+
+// The prologue's codes in reverse, then FF.
+fn first_list(o: Out, word: u32) -> Out
+    ensures { λ r. ⌜ r ≡ puts o (firstList (fieldsOf word)) ⌝ }
+{
+    let p = fields(word);
+    let fold = pf(p);
+    let registers = integers(word, fold);
+    let o = put_if(vpop(adjust(o, p, fold), p), p.c, 0xFC);
+    let o = pop(o, registers < 256, registers, p.l);
+    put(put_if(o, p.h, 0x04), 0xFF)
+}
+
+// Whether a pop is of 16 bits: one with LR is of 32.
+fn narrow(list: u32, lr: u32) -> bool
+    ensures { λ r. ⌜ r ≡ (low list && eqb lr 0) ⌝ }
+{
+    if list < 256 {
+        return lr == 0;
+    }
+    false
+}
+
+// H=1 and L=1: LR leaves the list, then EF 05, end FF.
+fn leave_loading(o: Out, registers: u32) -> Out
+    requires { ⌜ registers < 8192 ⌝ }
+    ensures { λ r. ⌜ r ≡ puts o (popCode (low registers) registers 0 ++ (0xEF ∷ 0x05 ∷ 0xFF ∷ [])) ⌝ }
+{
+    let o = pop(o, registers < 256, registers, 0);
+    put(put(put(o, 0xEF), 0x05), 0xFF)
+}
+
+// Ret 1 or 2: LR, if L, stays in the list; 04 if H; end FD or FE.
+fn leave_jumping(o: Out, p: Packed, registers: u32) -> Out
+    requires { ⌜ Fit p × (registers < 8192) ⌝ }
+    ensures { λ r. ⌜ r ≡ puts o (popCode (low registers && eqb (p .l) 0) registers (p .l) ++ when (eqb (p .h) 1) (0x04 ∷ []) ++ ((0xFC + p .ret) ∷ [])) ⌝ }
+{
+    let o = pop(o, narrow(registers, p.l), registers, p.l);
+    put(put_if(o, p.h, 0x04), (0xFC + p.ret) as u8)
+}
+
+// H=1 and L=1.
+fn loads_lr(h: u32, l: u32) -> bool
+    ensures { λ r. ⌜ r ≡ (eqb h 1 && eqb l 1) ⌝ }
+{
+    if h == 1 {
+        return l == 1;
+    }
+    false
+}
+
+// The pop and the return at the end of an epilogue.
+fn leave(o: Out, p: Packed, registers: u32) -> Out
+    requires { ⌜ Fit p × (registers < 8192) ⌝ }
+    ensures { λ r. ⌜ r ≡ puts o (leaveOf p registers) ⌝ }
+{
+    if loads_lr(p.h, p.l) {
+        return leave_loading(o, registers);
+    }
+    if p.ret == 0 {
+        return put(pop(o, registers < 256, registers, p.l), 0xFF);
+    }
+    leave_jumping(o, p, registers)
+}
+
+// The epilogue's codes, unless Ret=3.
+fn second_list(o: Out, word: u32) -> Out
+    ensures { λ r. ⌜ r ≡ puts o (secondList (fieldsOf word)) ⌝ }
+{
+    let p = fields(word);
+    if p.ret == 3 {
+        return o;
+    }
+    let fold = ef(p);
+    leave(vpop(adjust(o, p, fold), p), p, integers(word, fold))
+}
+
+// Both lists of a word.
+fn both_lists(word: u32) -> CodesOf
+    ensures { λ r. ⌜ r ≡ written (fieldsOf word) ⌝ }
+{
+    let blank = Out {
+        bytes: [0u8; 16],
+        len: 0,
+    };
+    let one = first_list(blank, word);
+    let two = second_list(one, word);
+    let bytes = two.bytes;
+    CodesOf {
+        verdict: Verdict::Given,
+        bytes: bytes,
+        first: CodeBytes(one.len),
+        second: CodeBytes(two.len - one.len),
+    }
+}
+
+// The code bytes of a packed word: first list, second list, the rest 0, and both lengths.
+pub fn write_codes(word: u32) -> CodesOf
+    ensures { λ r. ⌜ r ≡ codesAnswer (writeCodes word) ⌝ }
+{
+    if allowed(fields(word)) {
+        return both_lists(word);
+    }
+    CodesOf {
+        verdict: Verdict::Refused(Refusal::Reserved),
+        bytes: [0u8; 16],
+        first: CodeBytes(0),
+        second: CodeBytes(0),
+    }
+}

@@ -1,0 +1,46 @@
+-- Each return is one case of `find` by its tests; the last is what `search` finds in an ascending table. Assumes nothing.
+use Prim.Native.Nat.{_-_, _<_, _≤_}
+use mathlib.Core.Path.{sym, ap, _∙_}
+use native.Mathlib.Omega.{arith}
+use borrow.Author.Tests.{not-true, not-false}
+use borrow.Author.Needs.{needs}
+use Rattle.words.specs.Bits.{even}
+use Rattle.unwinding.specs.Answer.{ok}
+use Rattle.tables.specs.Pdata.{entries, lastUpTo, found}
+use Rattle.tables.proofs.Finding.{find-unfit, find-below, find-unsorted, find-sorted}
+use Rattle.tables.proofs.pdata.find_in.Statement.{statement}
+use Rattle.tables.proofs.pdata.find_in.Tie as tie
+
+returns : tie.Need-returns
+returns c e =
+    let a = c .before .before .before .args in
+    ap found (sym (find-unfit (a .image) (a .pdata .now) (a .pc) (sym (ap (λ k. k .whole) e) ∙ not-true (a .checked .whole) (c .if1 .taken))))
+
+even-requires : tie.Need-even-requires
+even-requires c κs = search needs
+
+returns-2 : tie.Need-returns-2
+returns-2 c e =
+    let a = c .before .before .before .before .before .args in
+    let b : even (a .pc) < a .image = omega (arith, c .before .even .ensures, c .if2 .taken) in
+    ap found (sym (find-below (a .image) (a .pdata .now) (a .pc) (sym (ap (λ k. k .whole) e) ∙ not-false (a .checked .whole) (c .before .before .if1 .left)) b))
+
+returns-3 : tie.Need-returns-3
+returns-3 c e =
+    let a = c .before .before .before .before .before .before .before .args in
+    let b : a .image ≤ even (a .pc) = omega (arith, c .before .before .before .even .ensures, c .before .before .if2 .left) in
+    ap found (sym (find-unsorted (a .image) (a .pdata .now) (a .pc) (sym (ap (λ k. k .whole) e) ∙ not-false (a .checked .whole) (c .before .before .before .before .if1 .left)) b (sym (ap (λ k. k .ascending) e) ∙ not-true (a .checked .ascending) (c .if3 .taken))))
+
+search-requires : tie.Need-search-requires
+search-requires c κs = search needs
+
+returns-4 : tie.Need-returns-4
+returns-4 c e =
+    let a = c .before .before .before .before .before .before .before .before .args in
+    let b : a .image ≤ even (a .pc) = omega (arith, c .before .before .before .before .even .ensures, c .before .before .before .if2 .left) in
+    let up = sym (ap (λ k. k .ascending) e) ∙ not-false (a .checked .ascending) (c .before .if3 .left) in
+    c .search .ensures up ∙ ap (λ n. found (ok (lastUpTo (entries (a .pdata .now)) (n - a .image)))) (c .before .before .before .before .even .ensures) ∙ ap found (sym (find-sorted (a .image) (a .pdata .now) (a .pc) (sym (ap (λ k. k .whole) e) ∙ not-false (a .checked .whole) (c .before .before .before .before .before .if1 .left)) b up))
+
+pub find-in-spec : {M : Type 1} → statement M
+find-in-spec =
+    tie.close (tie.spec returns even-requires returns-2 returns-3 search-requires returns-4)
