@@ -11,10 +11,9 @@ use native.Mathlib.Omega.{arith}
 use borrow.Author.Tests.{ne-eqb, eqb-true, eqb-false, leb-true, leb-false}
 use Rattle.words.specs.Units.{codeBytes}
 use Rattle.words.specs.declared.CodeBytes.{CodeBytes}
-use Rattle.unwinding.specs.Answer.{if_then_else_}
 use Rattle.unwinding.specs.CodeList.{total, endOf}
 use Rattle.unwinding.proofs.Ends.{total-empty, total-step, endOf-empty, endOf-step, endOf-whole}
-use Rattle.codes.specs.Code.{Scan, size, takeAt, scan}
+use Rattle.codes.specs.Code.{size, takeAt, scan}
 use Rattle.codes.specs.Skip.{skipAt}
 use Rattle.codes.specs.declared.Code.{Code}
 use Rattle.codes.specs.declared.Taken.{Taken}
