@@ -2,7 +2,8 @@
 use Rattle.unwinding.proofs.Opened as Below
 use Rattle.codes.specs.Table.{rows, rowIn}
 use Rattle.codes.specs.Code.{value, takeFrom, scanFrom}
+use Rattle.codes.specs.Skip.{skipFrom}
 
 unfoldable pub opened : Unit {0}
-unfolding Below.opened rows rowIn value takeFrom scanFrom
+unfolding Below.opened rows rowIn value takeFrom scanFrom skipFrom
 opened = tt

@@ -3,16 +3,13 @@
 use Prim.Native.Nat.{ℕ, _+_, _-_, _*_, _/_, _^_, _≤_, _<_}
 use mathlib.Core.Path.{_≡_, refl, sym, ap, ap₂, _∙_}
 use mathlib.Core.List.{List, [], _∷_}
-use mathlib.Core.Bool.{Bool, true, false, false≢true}
+use mathlib.Core.Bool.{true, false, false≢true}
 use lib.ListN.{length}
 use lib.Dec.{lit<}
 use native.Mathlib.Omega.{arith}
 use native.Mathlib.Nat.{mul-div-cancel-left}
-use Rattle.words.specs.Units.{codeBytes}
 use Rattle.words.specs.declared.CodeBytes.{CodeBytes}
-use Rattle.words.specs.declared.Halfwords.{Halfwords}
-use Rattle.words.specs.declared.Refusal.the-variants.{BadCodes}
-use Rattle.unwinding.specs.Answer.{Res, ok, refuse, either}
+use Rattle.unwinding.specs.Answer.{Res, ok, refuse}
 use Rattle.unwinding.specs.CodeList.{total}
 use Rattle.unwinding.proofs.Ends.{total-empty, total-step}
 use Rattle.codes.specs.Code.{Scan, takeAt, scan}
@@ -22,7 +19,6 @@ use Rattle.codes.specs.declared.Taken.{Taken}
 use Rattle.codes.specs.declared.Taken.the-variants.{One, Last, Bad}
 use Rattle.codes.specs.declared.Scanned.{Scanned}
 use Rattle.codes.specs.declared.Scanned.the-variants.{Ends, Refused}
-use Rattle.codes.specs.declared.Turn.{Turn}
 use Rattle.codes.proofs.Scanning.{take-next, scan-one, scan-last, scan-bad}
 use Rattle.codes.proofs.Sizes.{take-size}
 
@@ -43,9 +39,7 @@ plus-plus a b (Refused r) = refl
 scanned-one : (c : Code) (x : Scan) → scanned (record { list = c ∷ x .list; ending = x .ending }) ≡ plus (halves c) (scanned x)
 scanned-one c x = go (x .ending)
   where
-    go :
-        (e : Res ℕ)
-        → either e Refused (λ n. Ends (total halves (c ∷ x .list)) (n / 2)) ≡ plus (halves c) (either e Refused (λ n. Ends (total halves (x .list)) (n / 2)))
+    go : (e : Res ℕ) → scanned (record { list = c ∷ x .list; ending = e }) ≡ plus (halves c) (scanned (record { list = x .list; ending = e }))
     go (ok n) = ap (λ k. Ends k (n / 2)) (total-step halves c (x .list))
     go (refuse r) = refl
 

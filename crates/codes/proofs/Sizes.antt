@@ -11,22 +11,21 @@ use lib.Dec.{leb, lit<}
 use native.Mathlib.Omega.{arith}
 use native.Mathlib.Nat.{mul-div-cancel-left}
 use borrow.Author.Tests.{ne-eqb}
-use Rattle.words.specs.Units.{codeBytes, halfwordBytes}
+use Rattle.words.specs.Units.{codeBytes}
 use Rattle.words.specs.declared.CodeBytes.{CodeBytes}
 use Rattle.words.specs.declared.Halfwords.{Halfwords}
 use Rattle.words.specs.declared.Refusal.{Refusal}
-use Rattle.unwinding.specs.Answer.{Res, ok, refuse, either, if_then_else_}
+use Rattle.unwinding.specs.Answer.{Res, ok, refuse, _>>=_, if_then_else_}
 use Rattle.unwinding.specs.CodeList.{total, endOf}
 use Rattle.unwinding.proofs.Ends.{total-empty, total-step, total-append, endOf-step, endOf-whole}
 use Rattle.codes.specs.Table.{rowOf}
-use Rattle.codes.specs.Code.{value, size, taken, takeFrom, takeAt, Scan, scan}
+use Rattle.codes.specs.Code.{value, size, taken, takeFrom, takeAt, Scan, scan, codesAt}
 use Rattle.codes.specs.Reading.{halves, scanned}
 use Rattle.codes.specs.declared.Code.{Code}
 use Rattle.codes.specs.declared.Meaning.{Meaning}
 use Rattle.codes.specs.declared.Meaning.the-variants.{Does, End, Undefined}
 use Rattle.codes.specs.declared.Taken.{Taken}
 use Rattle.codes.specs.declared.Taken.the-variants.{One, Last, Bad}
-use Rattle.codes.specs.declared.Scanned.{Scanned}
 use Rattle.codes.specs.declared.Scanned.the-variants.{Ends, Refused}
 use Rattle.codes.proofs.Rows.{row-few, row-sized}
 use Rattle.codes.proofs.Scanning.{take-next, by-scan}
@@ -111,7 +110,7 @@ within s i =
 pub scanned-ends : (s : List ℕ) (i : CodeBytes) (h e : ℕ) → scanned (scan s i) ≡ Ends h e → Measured s i h e
 scanned-ends s i h e q = go (scan s i .ending) refl q
   where
-    go : (x : Res ℕ) → scan s i .ending ≡ x → either x Refused (λ n. Ends (total halves (scan s i .list)) (n / 2)) ≡ Ends h e → Measured s i h e
+    go : (x : Res ℕ) → scan s i .ending ≡ x → scanned (record { list = scan s i .list; ending = x }) ≡ Ends h e → Measured s i h e
     go (ok n) p r =
         let a : total halves (scan s i .list) ≡ h = cc in
         let b : n / 2 ≡ e = cc in
@@ -126,9 +125,17 @@ scanned-ends s i h e q = go (scan s i .ending) refl q
 pub scanned-refused : (s : List ℕ) (i : CodeBytes) (r : Refusal) → scanned (scan s i) ≡ Refused r → scan s i .ending ≡ refuse r
 scanned-refused s i r q = go (scan s i .ending) refl q
   where
-    go : (x : Res ℕ) → scan s i .ending ≡ x → either x Refused (λ n. Ends (total halves (scan s i .list)) (n / 2)) ≡ Refused r → scan s i .ending ≡ refuse r
+    go : (x : Res ℕ) → scan s i .ending ≡ x → scanned (record { list = scan s i .list; ending = x }) ≡ Refused r → scan s i .ending ≡ refuse r
     go (ok n) p t = absurd (let z : _≡_ {A = ℕ} 0 1 = cc in omega arith)
     go (refuse y) p t = let z : y ≡ r = cc in p ∙ ap refuse z
+
+-- so a pass finds what the code list at an index is
+pub codes-end :
+    (s : List ℕ) (i : CodeBytes) (h e : ℕ) → scanned (scan s i) ≡ Ends h e → codesAt s i ≡ ok (record { list = scan s i .list; endSize = 2 * e })
+codes-end s i h e q = ap (λ x. x >>= λ n. ok (record { list = scan s i .list; endSize = n })) (scanned-ends s i h e q .end-bytes)
+
+pub codes-refused : (s : List ℕ) (i : CodeBytes) (r : Refusal) → scanned (scan s i) ≡ Refused r → codesAt s i ≡ refuse r
+codes-refused s i r q = ap (λ x. x >>= λ n. ok (record { list = scan s i .list; endSize = n })) (scanned-refused s i r q)
 
 -- the laws of `endOf` at an instruction boundary, for a list whose codes all have an instruction
 pub boundary : (after n : ℕ) (a l : List Code) → Sized (a ++ l) → total size l + after ≡ n → endOf size after n (a ++ l) ≡ some l

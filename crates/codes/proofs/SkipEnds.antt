@@ -11,10 +11,9 @@ use native.Mathlib.Omega.{arith}
 use borrow.Author.Tests.{ne-eqb, eqb-true, eqb-false, leb-true, leb-false}
 use Rattle.words.specs.Units.{codeBytes}
 use Rattle.words.specs.declared.CodeBytes.{CodeBytes}
-use Rattle.unwinding.specs.Answer.{if_then_else_}
 use Rattle.unwinding.specs.CodeList.{total, endOf}
 use Rattle.unwinding.proofs.Ends.{total-empty, total-step, endOf-empty, endOf-step, endOf-whole}
-use Rattle.codes.specs.Code.{Scan, size, takeAt, scan}
+use Rattle.codes.specs.Code.{size, takeAt, scan}
 use Rattle.codes.specs.Skip.{skipAt}
 use Rattle.codes.specs.declared.Code.{Code}
 use Rattle.codes.specs.declared.Taken.{Taken}
@@ -34,29 +33,29 @@ endOf-short after n (c ∷ cs) h =
     endOf-step size after n c cs ∙ rw (ne-eqb _ _ l) (endOf-short after n cs (omega (arith, total-step size c cs)))
 
 -- the codes behind what was skipped
-abbrev pub behind : List ℕ → Skipped → Option (List Code)
-behind s (At p) = some (scan s p .list)
-behind s Nowhere = none
+abbrev pub codesBehind : List ℕ → Skipped → Option (List Code)
+codesBehind s (At p) = some (scan s p .list)
+codesBehind s Nowhere = none
 
 module _ (s : List ℕ) (after n : ℕ) where
   abbrev codes : ℕ → List Code
   codes i = scan s (codeBytes i) .list
 
   abbrev Ends : ℕ → ℕ → Type 0
-  Ends i k = k + n ≡ total size (codes i) + after → endOf size after n (codes i) ≡ behind s (skipAt s (codeBytes i) k)
+  Ends i k = k + n ≡ total size (codes i) + after → endOf size after n (codes i) ≡ codesBehind s (skipAt s (codeBytes i) k)
 
   -- nothing to skip
   ends-none : (i k : ℕ) → k ≡ 0 → Ends i k
   ends-none i k z h =
       endOf-whole size after n (codes i) (omega arith)
-      ∙ sym (ap (behind s) (ap (skipAt s (codeBytes i)) z ∙ skip-none s i))
+      ∙ sym (ap (codesBehind s) (ap (skipAt s (codeBytes i)) z ∙ skip-none s i))
 
   -- nothing to take
   ends-empty : (i k : ℕ) → (k ≡ 0 → ⊥) → codes i ≡ [] → skipAt s (codeBytes i) k ≡ Nowhere → Ends i k
   ends-empty i k z e q h =
       let t : total size (codes i) ≡ 0 = ap (total size) e ∙ total-empty size in
       let l : after ≡ n → ⊥ = λ p. z (omega arith) in
-      ap (endOf size after n) e ∙ endOf-empty size after n ∙ rw (ne-eqb after n l) (sym (ap (behind s) q))
+      ap (endOf size after n) e ∙ endOf-empty size after n ∙ rw (ne-eqb after n l) (sym (ap (codesBehind s) q))
 
   -- a code, by what holds behind it
   ends-one :
@@ -75,13 +74,13 @@ module _ (s : List ℕ) (after n : ℕ) where
           let q : total size (c ∷ codes (next .0)) + after ≡ n → ⊥ = λ p. z (omega (arith, ap (total size) l)) in
           ap (endOf size after n) l ∙ endOf-step size after n c (codes (next .0)) ∙ rw (ne-eqb _ _ q) refl
 
-      go : (x : Bool) → leb (size c) k ≡ x → endOf size after n (codes i) ≡ behind s (skipAt s (codeBytes i) k)
+      go : (x : Bool) → leb (size c) k ≡ x → endOf size after n (codes i) ≡ codesBehind s (skipAt s (codeBytes i) k)
       go true p =
           let u : size c ≤ k = leb-true _ _ p in
-          on ∙ ih (k - size c) (omega (arith, t)) ∙ sym (ap (behind s) (skip-one s i k z c next e u))
+          on ∙ ih (k - size c) (omega (arith, t)) ∙ sym (ap (codesBehind s) (skip-one s i k z c next e u))
       go false p =
           let u : k < size c = leb-false _ _ p in
-          on ∙ endOf-short after n (codes (next .0)) (omega (arith, t)) ∙ sym (ap (behind s) (skip-inside s i k z c next e u))
+          on ∙ endOf-short after n (codes (next .0)) (omega (arith, t)) ∙ sym (ap (codesBehind s) (skip-inside s i k z c next e u))
 
   ends-here : (i : ℕ) → ((c : Code) (next : CodeBytes) → takeAt s (codeBytes i) ≡ One c next → (m : ℕ) → Ends (next .0) m) → (k : ℕ) → Ends i k
   ends-here i ih k h = start (eqb k 0) refl
@@ -91,14 +90,14 @@ module _ (s : List ℕ) (after n : ℕ) where
       by-taken z (Last y) e = ends-empty i k z (ap (λ x. x .list) (scan-last s i y e)) (skip-last s i k z y e)
       by-taken z (Bad j) e = ends-empty i k z (ap (λ x. x .list) (scan-bad s i j e)) (skip-bad s i k z j e)
 
-      start : (x : Bool) → eqb k 0 ≡ x → endOf size after n (codes i) ≡ behind s (skipAt s (codeBytes i) k)
+      start : (x : Bool) → eqb k 0 ≡ x → endOf size after n (codes i) ≡ codesBehind s (skipAt s (codeBytes i) k)
       start true e = ends-none i k (eqb-true k 0 e) h
       start false e = by-taken (eqb-false k 0 e) (takeAt s (codeBytes i)) refl h
 
   -- k bytes of instructions are skipped, and n are left with those after the list
   pub skip-ends :
       (i : CodeBytes) (k : ℕ) → k + n ≡ total size (scan s i .list) + after
-      → endOf size after n (scan s i .list) ≡ behind s (skipAt s i k)
+      → endOf size after n (scan s i .list) ≡ codesBehind s (skipAt s i k)
   skip-ends i k h = by-codes s (λ j. (m : ℕ) → Ends j m) ends-here (i .0) k h
 
 module _ (s : List ℕ) where
