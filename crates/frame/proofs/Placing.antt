@@ -28,7 +28,7 @@ use Rattle.codes.specs.declared.Skipped.{Skipped}
 use Rattle.codes.specs.declared.Skipped.the-variants.{At, Nowhere}
 use Rattle.codes.specs.Code.{size, scan, codesAt}
 use Rattle.codes.specs.Skip.{skipAt}
-use Rattle.codes.proofs.SkipEnds.{behind, skip-ends, skip-ending}
+use Rattle.codes.proofs.SkipEnds.{codesBehind, skip-ends, skip-ending}
 use Rattle.frame.specs.Look.{wayOf, inLine, hitOf, see, unseen, lookFrom, spot, noSpot, bySkip, skipped, ifAlways, inHit, inSeen, prologueOf, spotOf}
 use Rattle.frame.specs.declared.Way.{Way}
 use Rattle.frame.specs.declared.Hit.{Hit}
@@ -229,7 +229,7 @@ left-skipped :
 unfolding left
 left-skipped s p i after n k h = rw (skip-ends s after n i k h) (go (skipAt s i k))
   where
-    go : (x : Skipped) → maybe (behind s x) (refuse InsideInstruction) (λ l. ok (record { place = p; codes = l })) ≡ todoOf s (bySkip p x)
+    go : (x : Skipped) → maybe (codesBehind s x) (refuse InsideInstruction) (λ l. ok (record { place = p; codes = l })) ≡ todoOf s (bySkip p x)
     go (At j) = refl
     go Nowhere = refl
 

@@ -1,7 +1,7 @@
 -- Where an offset stands in a record, as one pass over the record finds it: the epilogues in turn, with what refusal 7 asks of them and
 -- the one that the offset falls into; then the place and the index at which the codes that run there begin. That this is what `view` and
 -- `todo` say is a law (proofs/Placing.antt).
-use Prim.Native.Nat.{ℕ, zero, suc, _+_, _-_, _*_}
+use Prim.Native.Nat.{ℕ, _+_, _-_}
 use mathlib.Core.List.{List, [], _∷_}
 use mathlib.Core.Bool.{Bool, true, false, _&&_, _||_, not}
 use lib.Dec.{leb, ltb, eqb}
@@ -12,7 +12,6 @@ use Rattle.words.specs.declared.Refusal.{Refusal}
 use Rattle.words.specs.declared.Refusal.the-variants.{BadLayout, InsideInstruction, Conditional}
 use Rattle.words.specs.declared.Verdict.the-variants.{Given, Refused}
 use Rattle.words.specs.Units.{codeBytes}
-use Rattle.words.specs.Little.{word32}
 use Rattle.unwinding.specs.Answer.{Res, either, if_then_else_}
 use Rattle.unwinding.specs.CodeList.{Codes, total}
 use Rattle.unwinding.specs.Shape.{startOf}
@@ -23,8 +22,9 @@ use Rattle.codes.specs.declared.Skipped.{Skipped}
 use Rattle.codes.specs.declared.Skipped.the-variants.{At, Nowhere}
 use Rattle.codes.specs.Code.{size, codesAt}
 use Rattle.codes.specs.Skip.{skipAt}
-use Rattle.tables.specs.Record.{scopeOf}
 use Rattle.frame.specs.declared.Way.{Way}
+use Rattle.frame.specs.declared.WayOf.{WayOf}
+use Rattle.frame.specs.declared.WayOf.the-variants.{Made, NoWay}
 use Rattle.frame.specs.declared.Hit.{Hit}
 use Rattle.frame.specs.declared.Hit.the-variants.{Miss, In}
 use Rattle.frame.specs.declared.Seen.{Seen}
@@ -37,6 +37,14 @@ abbrev pub wayOf : (span : ℕ) → Scope → Codes Code → Way
 wayOf span e c =
     let n : ℕ = total size (c .list) + c .endSize in
     record { start = startOf (e .start) span n; size = n; condition = e .condition; index = e .index }
+
+abbrev pub wayRead : (span : ℕ) → Scope → Res (Codes Code) → WayOf
+wayRead span e r = either r NoWay (λ c. Made (wayOf span e c))
+
+-- where it ends
+abbrev pub wayEnd : WayOf → ℕ
+wayEnd (Made w) = w .start + w .size
+wayEnd (NoWay r) = 0
 
 -- it stands in line: not before `floor`, inside the function, and, unless it is empty, not before `reach`
 abbrev pub inLine : (span floor reach : ℕ) → Way → Bool
@@ -103,8 +111,3 @@ unfoldable pub spotOf : (codes : List ℕ) → (span : ℕ) → (fragment : Bool
 spotOf s span f scopes o =
     either (codesAt s (codeBytes 0)) noSpot
     (λ c. inSeen s (prologueOf f c) o (lookFrom s span o (unseen span (prologueOf f c)) scopes))
-
--- n scope words from a byte offset
-unfoldable pub scopesFrom : List ℕ → (at n : ℕ) → List Scope
-scopesFrom s a zero = []
-scopesFrom s a (suc n) = scopeOf (word32 s a) ∷ scopesFrom s (a + 4) n

@@ -1,6 +1,9 @@
 // One frame: the checks of its inputs in document 01's order, the record of its pc, the place, and the caller. It knows neither lists
 // nor files.
 use machine::Regs;
+
+mod place; // where an offset stands in a record
+
 use words::CodeBytes;
 use words::Place;
 use words::Refusal;
@@ -27,6 +30,12 @@ pub struct Way {
     pub size: u64,
     pub condition: u32,
     pub index: CodeBytes,
+}
+
+// The epilogue of a scope, or 6.
+pub enum WayOf {
+    Made(Way),
+    NoWay(Refusal),
 }
 
 // The epilogue that an offset falls into, if any.

@@ -1,0 +1,288 @@
+// Where an offset stands in a record, and the index at which the codes that run there begin: one pass over the record's epilogues. The
+// code bytes of a record are at most 255 words.
+use super::Hit;
+use super::Looked;
+use super::Seen;
+use super::Spot;
+use super::Way;
+use super::WayOf;
+use codes::Scanned;
+use codes::Skipped;
+use tables::Plan;
+use unwinding::Scope;
+use unwinding::Start;
+use words::CodeBytes;
+use words::Place;
+use words::Refusal;
+use words::Verdict;
+ghost use mathlib.Core.Path.{_≡_};
+ghost use mathlib.Core.Bool.{_&&_, _||_};
+ghost use Prim.Native.Nat.{_+_, _-_, _*_, _/_, _^_, _≤_, _<_};
+ghost use lib.ListN.{length};
+ghost use lib.Dec.{leb, ltb};
+ghost use Rattle.words.specs.Units.{codeBytes};
+ghost use Rattle.unwinding.specs.Answer.{if_then_else_};
+ghost use Rattle.unwinding.specs.Shape.{startOf};
+ghost use Rattle.codes.specs.Code.{codesAt};
+ghost use Rattle.codes.specs.Skip.{skipAt};
+ghost use Rattle.tables.specs.Plan.{scopesFrom};
+ghost use Rattle.frame.specs.Look.{wayRead, wayEnd, inLine, hitOf, see as seeOf, lookFrom, bySkip, inHit, inSeen, unseen as unseenOf, spotOf, noSpot as noSpotOf};
+
+// Where an epilogue of this size starts in a function of this length.
+fn start_of(start: Start, span: u64, size: u64) -> u64
+    requires { ⌜ span < 2 ^ 32 ⌝ }
+    ensures { λ r. ⌜ (r ≡ startOf start span size) × (r < 2 ^ 32) ⌝ }
+{
+    match start {
+        Start::From(at) => at as u64,
+        Start::Ending => { if size <= span { span - size } else { 0 } }
+    }
+}
+
+// The epilogue of a scope.
+fn way_of(codes: &[u8], e: Scope, span: u64) -> WayOf
+    requires { ⌜ (length (now codes) ≤ 1020) × (span < 2 ^ 32) ⌝ }
+    ensures { λ r. ⌜ (r ≡ wayRead span e (codesAt (now (codes .entry)) (e .index))) × (wayEnd r < 2 ^ 33) ⌝ }
+{
+    let index = e.index;
+    let start = e.start;
+    match codes::scan(codes, index) {
+        Scanned::Ends(list, end) => {
+            let size = 2 * (list + end);
+            WayOf::Made(Way {
+                start: start_of(start, span, size),
+                size: size,
+                condition: e.condition,
+                index: index,
+            })
+        }
+        Scanned::Refused(r) => WayOf::NoWay(r),
+    }
+}
+
+// Whether an epilogue from start up to end stands in line: not before floor, inside the function, and, unless it is empty, not before
+// reach.
+fn in_line(span: u64, floor: u64, reach: u64, start: u64, end: u64) -> bool
+    ensures { λ r. ⌜ r ≡ (leb floor start && leb end span && (leb end start || leb reach start)) ⌝ }
+{
+    if start < floor {
+        return false;
+    }
+    if span < end {
+        return false;
+    }
+    if end <= start {
+        return true;
+    }
+    reach <= start
+}
+
+fn both(a: bool, b: bool) -> bool
+    ensures { λ r. ⌜ r ≡ (a && b) ⌝ }
+{
+    if a { b } else { false }
+}
+
+// Where the last epilogue that is not empty ends.
+fn reach_of(reach: u64, start: u64, end: u64) -> u64
+    ensures { λ r. ⌜ r ≡ (if leb end start then reach else end) ⌝ }
+{
+    if end <= start { reach } else { end }
+}
+
+// Whether an offset stands from start up to end.
+fn falls(o: u64, start: u64, end: u64) -> bool
+    ensures { λ r. ⌜ r ≡ (leb start o && ltb o end) ⌝ }
+{
+    if start <= o { o < end } else { false }
+}
+
+// The first epilogue that the offset falls into.
+fn hit_of(o: u64, hit: Hit, w: Way, end: u64) -> Hit
+    requires { ⌜ end ≡ w .start + w .size ⌝ }
+    ensures { λ r. ⌜ r ≡ hitOf o hit w ⌝ }
+{
+    match hit {
+        Hit::In(_) => hit,
+        Hit::Miss => {
+            if falls(o, w.start, end) {
+                Hit::In(w)
+            } else {
+                Hit::Miss
+            }
+        }
+    }
+}
+
+// What has been seen with one epilogue more.
+fn see(span: u64, o: u64, s: Seen, w: Way) -> Seen
+    requires { ⌜ w .start + w .size < 2 ^ 33 ⌝ }
+    ensures { λ r. ⌜ r ≡ seeOf span o s w ⌝ }
+{
+    let start = w.start;
+    let end = start + w.size;
+    let hit = s.hit;
+    Seen {
+        floor: start + 1,
+        reach: reach_of(s.reach, start, end),
+        fits: both(s.fits, in_line(span, s.floor, s.reach, start, end)),
+        hit: hit_of(o, hit, w, end),
+    }
+}
+
+// A function's length, with its range.
+fn span_of(plan: Plan) -> u64
+    ensures { λ r. ⌜ (r ≡ plan .span) × (r < 2 ^ 32) ⌝ }
+{
+    plan.span as u64
+}
+
+// How many epilogues a record has, with its range.
+fn count_of(plan: Plan) -> usize
+    ensures { λ r. ⌜ (r ≡ plan .count) × (r < 2 ^ 64) ⌝ }
+{
+    plan.count
+}
+
+// The epilogues of a record in turn.
+fn look(codes: &[u8], plan: Plan, xdata: &[u8], o: u64, seen: Seen) -> Looked
+    requires { ⌜ length (now codes) ≤ 1020 ⌝ }
+    ensures { λ r. ⌜ r ≡ lookFrom (now (codes .entry)) (plan .span) o seen (scopesFrom (plan .scopes) (now (xdata .entry)) 0 (plan .count)) ⌝ }
+{
+    let span = span_of(plan);
+    let n = count_of(plan);
+    let mut s = seen;
+    let mut k: usize = 0;
+    while k < n {
+        let way = way_of(codes, tables::xdata::scope(plan, xdata, k), span);
+        match way {
+            WayOf::Made(w) => {
+                s = see(span, o, s, w);
+            }
+            WayOf::NoWay(r) => {
+                return Looked::Bad(r);
+            }
+        }
+        k += 1;
+    }
+    Looked::All(s)
+}
+
+fn no_spot(r: Refusal) -> Spot
+    ensures { λ s. ⌜ s ≡ noSpotOf r ⌝ }
+{
+    Spot {
+        verdict: Verdict::Refused(r),
+        place: Place::Leaf,
+        index: CodeBytes(0),
+    }
+}
+
+// How far an offset is past another; 0 where it is not.
+fn past(o: u64, from: u64) -> u64
+    ensures { λ r. ⌜ r ≡ o - from ⌝ }
+{
+    if from <= o { o - from } else { 0 }
+}
+
+// In the prologue: the codes of the instructions not yet done are skipped.
+fn in_prologue(codes: &[u8], k: u64) -> Spot
+    ensures { λ r. ⌜ r ≡ bySkip Place.Prologue (skipAt (now (codes .entry)) (codeBytes 0) k) ⌝ }
+{
+    match codes::skip(codes, CodeBytes(0), k) {
+        Skipped::At(index) => Spot {
+            verdict: Verdict::Given,
+            place: Place::Prologue,
+            index: index,
+        },
+        Skipped::Nowhere => no_spot(Refusal::InsideInstruction),
+    }
+}
+
+// In an epilogue: the codes of the instructions done are skipped; 9 before 10.
+fn in_epilogue(codes: &[u8], o: u64, w: Way) -> Spot
+    ensures { λ r. ⌜ r ≡ inHit (now (codes .entry)) o (Hit.In w) ⌝ }
+{
+    match codes::skip(codes, w.index, past(o, w.start)) {
+        Skipped::At(index) => {
+            if w.condition == 14 {
+                Spot {
+                    verdict: Verdict::Given,
+                    place: Place::Epilogue,
+                    index: index,
+                }
+            } else {
+                no_spot(Refusal::Conditional)
+            }
+        }
+        Skipped::Nowhere => no_spot(Refusal::InsideInstruction),
+    }
+}
+
+// In the body or in an epilogue.
+fn in_hit(codes: &[u8], o: u64, hit: Hit) -> Spot
+    ensures { λ r. ⌜ r ≡ inHit (now (codes .entry)) o hit ⌝ }
+{
+    match hit {
+        Hit::In(w) => in_epilogue(codes, o, w),
+        Hit::Miss => Spot {
+            verdict: Verdict::Given,
+            place: Place::Body,
+            index: CodeBytes(0),
+        },
+    }
+}
+
+// 7, and then the place.
+fn in_seen(codes: &[u8], p: u64, o: u64, looked: Looked) -> Spot
+    ensures { λ r. ⌜ r ≡ inSeen (now (codes .entry)) p o looked ⌝ }
+{
+    match looked {
+        Looked::Bad(r) => no_spot(r),
+        Looked::All(seen) => {
+            let hit = seen.hit;
+            if seen.fits {
+                if o < p {
+                    return in_prologue(codes, p - o);
+                }
+                return in_hit(codes, o, hit);
+            }
+            no_spot(Refusal::BadLayout)
+        }
+    }
+}
+
+// Before any epilogue: the prologue is what must not be shared.
+fn unseen(span: u64, p: u64) -> Seen
+    ensures { λ r. ⌜ r ≡ unseenOf span p ⌝ }
+{
+    Seen {
+        floor: 0,
+        reach: p,
+        fits: p <= span,
+        hit: Hit::Miss,
+    }
+}
+
+// The bytes of a prologue whose instructions take so many halfwords; a fragment has none.
+fn prologue_of(fragment: bool, list: u64) -> u64
+    requires { ⌜ list < 4096 ⌝ }
+    ensures { λ r. ⌜ r ≡ (if fragment then 0 else 2 * list) ⌝ }
+{
+    if fragment { 0 } else { 2 * list }
+}
+
+// The place of an offset in a record, and the index of the first code that runs there.
+pub fn spot(codes: &[u8], plan: Plan, xdata: &[u8], o: u64) -> Spot
+    requires { ⌜ length (now codes) ≤ 1020 ⌝ }
+    ensures { λ r. ⌜ r ≡ spotOf (now (codes .entry)) (plan .span) (plan .fragment) (scopesFrom (plan .scopes) (now (xdata .entry)) 0 (plan .count)) o ⌝ }
+{
+    match codes::scan(codes, CodeBytes(0)) {
+        Scanned::Ends(list, _) => {
+            let p = prologue_of(plan.fragment, list);
+            let seen = unseen(span_of(plan), p);
+            in_seen(codes, p, o, look(codes, plan, xdata, o, seen))
+        }
+        Scanned::Refused(r) => no_spot(r),
+    }
+}
