@@ -4,3 +4,4 @@ pub mod Order
 pub mod Placing
 pub mod Looking
 pub mod Within
+pub mod Records

@@ -1,14 +1,16 @@
 -- A frame at an offset that its record covers: the spot found, the codes run from its index, 11, and the caller.
 -- Assumes nothing.
-use Prim.Native.Nat.{ℕ}
+use Prim.Native.Nat.{ℕ, _≤_, _<_}
 use mathlib.Core.Path.{_≡_, refl, sym, ap, _∙_}
 use mathlib.Core.List.{List}
 use mathlib.Core.Bool.{Bool}
 use lib.ListN.{length}
 use lib.Dec.{leb}
+use borrow.Author.Tests.{le-leb, lt-leb}
 use Rattle.words.specs.Lent.{Lent}
 use Rattle.words.specs.declared.Place.{Place}
 use Rattle.words.specs.declared.CodeBytes.{CodeBytes}
+use Rattle.words.specs.declared.Refusal.{Refusal}
 use Rattle.words.specs.declared.Refusal.the-variants.{SpFell}
 use Rattle.words.specs.declared.Verdict.{Verdict}
 use Rattle.words.specs.declared.Verdict.the-variants.{Given, Refused}
@@ -25,24 +27,9 @@ use Rattle.machine.specs.Step.{step}
 use Rattle.machine.specs.Run.{runAt}
 use Rattle.frame.specs.Frame.{Caller, returned, within}
 use Rattle.frame.specs.Look.{spotOf}
+use Rattle.frame.specs.FromSpot.{finish, ranFrom, fromBy, fromSpot}
 use Rattle.frame.specs.declared.Spot.{Spot}
 use Rattle.frame.proofs.Placing.{todoBy, spot-todo, EndedBy, spot-ends}
-
--- 11, and the caller
-abbrev pub finish : (handler : ℕ) → (given : Regs) → Place → (codes : ℕ) → Regs → Res Caller
-finish handler g p n h =
-    need (leb (g .sp) (h .sp)) SpFell >> ok (record { regs = returned h; place = p; handler = handler; codes = n })
-
--- the codes from an index run, and that
-abbrev pub ranFrom : (stack : Lent) → (codes : List ℕ) → (handler : ℕ) → Regs → Place → CodeBytes → Res Caller
-ranFrom k s handler g p i = runAt k s i g >>= finish handler g p (length (scan s i .list))
-
-abbrev pub fromBy : (stack : Lent) → (codes : List ℕ) → (handler : ℕ) → Regs → Place → CodeBytes → Verdict → Res Caller
-fromBy k s handler g p i Given = ranFrom k s handler g p i
-fromBy k s handler g p i (Refused r) = refuse r
-
-abbrev pub fromSpot : (stack : Lent) → (codes : List ℕ) → (handler : ℕ) → Regs → Spot → Res Caller
-fromSpot k s handler g p = fromBy k s handler g (p .place) (p .index) (p .verdict)
 
 abbrev undone : (stack : Lent) → (handler : ℕ) → Regs → Todo Code → Res Caller
 undone k handler g t = run (step k) (t .codes) g >>= finish handler g (t .place) (length (t .codes))
@@ -70,3 +57,27 @@ within-spot k sh o g =
     ∙ ap (λ x. x >>= undone k (sh .handler) g) (spot-todo sh o)
     ∙ (let p = spotOf (sh .codes) (sh .span) (sh .fragment) (sh .scopes) o in
     todo-ran k (sh .codes) (sh .handler) g (p .place) (p .index) (p .verdict) (spot-ends (sh .codes) (sh .span) (sh .fragment) (sh .scopes) o))
+
+-- by what running came to
+module _ (k : Lent) (s : List ℕ) (handler : ℕ) (g : Regs) (p : Place) (i : CodeBytes) where
+  pub ran-stopped : (r : Refusal) → runAt k s i g ≡ refuse r → ranFrom k s handler g p i ≡ refuse r
+  ran-stopped r e = rw e refl
+
+  pub ran-fell : (h : Regs) → runAt k s i g ≡ ok h → h .sp < g .sp → ranFrom k s handler g p i ≡ refuse SpFell
+  ran-fell h e l = rw (e, lt-leb (g .sp) (h .sp) l) refl
+
+  pub ran-rose :
+      (h : Regs) (n : ℕ) → runAt k s i g ≡ ok h → n ≡ length (scan s i .list) → g .sp ≤ h .sp
+      → ok (record { regs = returned h; place = p; handler = handler; codes = n }) ≡ ranFrom k s handler g p i
+  ran-rose h n e q l = rw (e, le-leb (g .sp) (h .sp) l, q) refl
+
+-- by the spot found
+module _ (k : Lent) (sh : Shape) (o : ℕ) (g : Regs) (p : Spot) (is : p ≡ spotOf (sh .codes) (sh .span) (sh .fragment) (sh .scopes) o) where
+  from : within k sh o g ≡ fromSpot k (sh .codes) (sh .handler) g p
+  from = within-spot k sh o g ∙ ap (fromSpot k (sh .codes) (sh .handler) g) (sym is)
+
+  pub within-refused : (r : Refusal) → p .verdict ≡ Refused r → within k sh o g ≡ refuse r
+  within-refused r e = from ∙ ap (fromBy k (sh .codes) (sh .handler) g (p .place) (p .index)) e
+
+  pub within-given : p .verdict ≡ Given → within k sh o g ≡ ranFrom k (sh .codes) (sh .handler) g (p .place) (p .index)
+  within-given e = from ∙ ap (fromBy k (sh .codes) (sh .handler) g (p .place) (p .index)) e

@@ -2,6 +2,7 @@
 // nor files.
 use machine::Regs;
 
+mod caller; // the caller by the record found
 mod place; // where an offset stands in a record
 
 use words::CodeBytes;

@@ -212,6 +212,14 @@ module _ (b : ℕ) (s : List ℕ) (a : ℕ) (f : FullOf) (is : f ≡ fullAnswer 
       go (refused why p q) = rw p (omega arith)
       go (given h e p q) = rw p (omega (arith, lent-above (lent b s) a (recordBytes h) (head-small (lent b s) a h e .lent)))
 
+  -- of which there are at most 255 words
+  pub full-few : f .codes .len ≤ 1020
+  full-few = go outcome
+    where
+      go : Outcome b s a f → f .codes .len ≤ 1020
+      go (refused why p q) = rw p (omega arith)
+      go (given h e p q) = rw p (omega (arith, head-small (lent b s) a h e .codewords))
+
 -- a packed record's epilogue is the plan's
 packed-scopes :
     (p : Packed) (i : CodeBytes) (s : List ℕ)

@@ -1,0 +1,14 @@
+-- The test is the definition's.
+-- Assumes nothing.
+use borrow.Author.Tests.{eq-eqb, ne-eqb}
+use Rattle.frame.proofs.caller.returns.Statement.{statement}
+use Rattle.frame.proofs.caller.returns.Tie as tie
+
+returns : tie.Need-returns
+returns c = simp (eq-eqb _ _ (c .if1 .taken))
+
+returns-2 : tie.Need-returns-2
+returns-2 c = simp (ne-eqb _ _ (c .if1 .left))
+
+pub returns-spec : {M : Type 1} → statement M
+returns-spec = tie.close (tie.spec returns returns-2)

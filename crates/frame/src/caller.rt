@@ -1,0 +1,243 @@
+// The caller of a frame: by no covering record, or by the record found.
+use super::Unwound;
+use super::place;
+use machine::Regs;
+use tables::Entry;
+use tables::Plan;
+use tables::Scopes;
+use words::CodeBytes;
+use words::Place;
+use words::Refusal;
+use words::Verdict;
+ghost use mathlib.Core.Path.{_≡_};
+ghost use Prim.Native.Nat.{ℕ, _-_, _≤_};
+ghost use mathlib.Core.List.{List};
+ghost use lib.ListN.{length};
+ghost use lib.Dec.{eqb};
+ghost use Rattle.words.specs.Bits.{even};
+ghost use Rattle.words.specs.Lent.{lent};
+ghost use Rattle.unwinding.specs.Answer.{refuse, if_then_else_};
+ghost use Rattle.tables.specs.Packed.{fields as fieldsOf};
+ghost use Rattle.tables.specs.Plan.{shapeBy, packedPlanBy};
+ghost use Rattle.frame.specs.Frame.{returned as returnedOf, leafOf, uncovered as uncoveredOf, within, byRecord, inputs, unwound};
+ghost use Rattle.frame.specs.FromSpot.{ranFrom, inShape, byFull, byPacked};
+
+// A refusal gives back the given registers.
+pub fn refused(g: Regs, why: Refusal) -> Unwound
+    ensures { λ r. ⌜ r ≡ unwound g (refuse why) ⌝ }
+{
+    Unwound {
+        verdict: Verdict::Refused(why),
+        regs: g,
+        place: Place::Leaf,
+        handler: 0,
+        codes: 0,
+    }
+}
+
+// LR keeps its value; pc is LR with bit 0 cleared.
+fn returned(g: Regs) -> Regs
+    ensures { λ r. ⌜ r ≡ returnedOf g ⌝ }
+{
+    let mut h = g;
+    h.pc = words::even(g.lr);
+    h
+}
+
+// No covering record: a leaf, and 12 for a frame after the first.
+pub fn uncovered(first: bool, g: Regs) -> Unwound
+    ensures { λ r. ⌜ r ≡ unwound g (uncoveredOf first g) ⌝ }
+{
+    if first {
+        return Unwound {
+            verdict: Verdict::Given,
+            regs: returned(g),
+            place: Place::Leaf,
+            handler: 0,
+            codes: 0,
+        };
+    }
+    refused(g, Refusal::NoRecord)
+}
+
+// The codes from an index run, and 11.
+fn ran_from(
+    codes: &[u8],
+    index: CodeBytes,
+    place: Place,
+    handler: u32,
+    g: Regs,
+    base: u32,
+    stack: &[u8],
+) -> Unwound
+    ensures { λ r. ⌜ r ≡ unwound g (ranFrom (lent base (now (stack .entry))) (now (codes .entry)) handler g place index) ⌝ }
+{
+    let ran = machine::run(codes, index, g, base, stack);
+    let verdict = ran.verdict;
+    match verdict {
+        Verdict::Refused(why) => refused(g, why),
+        Verdict::Given => {
+            let h = ran.regs;
+            if h.sp < g.sp {
+                return refused(g, Refusal::SpFell);
+            }
+            Unwound {
+                verdict: Verdict::Given,
+                regs: returned(h),
+                place: place,
+                handler: handler,
+                codes: ran.codes,
+            }
+        }
+    }
+}
+
+// At an offset of a function that covers it.
+fn covered(
+    codes: &[u8],
+    plan: Plan,
+    xdata: &[u8],
+    o: u64,
+    g: Regs,
+    base: u32,
+    stack: &[u8],
+) -> Unwound
+    requires { ⌜ length (now codes) ≤ 1020 ⌝ }
+    ensures { λ r. ⌜ r ≡ unwound g (within (lent base (now (stack .entry))) (shapeBy plan (now (codes .entry)) (now (xdata .entry))) o g) ⌝ }
+{
+    let spot = place::spot(codes, plan, xdata, o);
+    let verdict = spot.verdict;
+    let at = spot.place;
+    match verdict {
+        Verdict::Refused(why) => refused(g, why),
+        Verdict::Given => ran_from(codes, spot.index, at, plan.handler, g, base, stack),
+    }
+}
+
+// By a record's plan and code bytes, at an offset that it covers or not.
+fn by_plan(
+    first: bool,
+    codes: &[u8],
+    plan: Plan,
+    xdata: &[u8],
+    o: u64,
+    g: Regs,
+    base: u32,
+    stack: &[u8],
+) -> Unwound
+    requires { ⌜ length (now codes) ≤ 1020 ⌝ }
+    ensures { λ r. ⌜ r ≡ unwound g (inShape first (lent base (now (stack .entry))) o g (shapeBy plan (now (codes .entry)) (now (xdata .entry)))) ⌝ }
+{
+    if o < plan.span as u64 {
+        return covered(codes, plan, xdata, o, g, base, stack);
+    }
+    uncovered(first, g)
+}
+
+// By the full record at an RVA.
+fn by_full(
+    first: bool,
+    rva: u32,
+    xdata: &[u8],
+    at: u32,
+    o: u64,
+    g: Regs,
+    base: u32,
+    stack: &[u8],
+) -> Unwound
+    ensures { λ r. ⌜ r ≡ unwound g (byFull first (lent rva (now (xdata .entry))) at (lent base (now (stack .entry))) o g) ⌝ }
+{
+    let full = tables::xdata::full(rva, xdata, at);
+    let verdict = full.verdict;
+    match verdict {
+        Verdict::Refused(why) => refused(g, why),
+        Verdict::Given => {
+            let part = full.codes;
+            let plan = full.plan;
+            let start = part.start;
+            let end = start + part.len;
+            by_plan(first, &xdata[start..end], plan, xdata, o, g, base, stack)
+        }
+    }
+}
+
+// How many epilogues a packed record has: none if Ret=3.
+fn returns(ret: u32) -> usize
+    ensures { λ r. ⌜ r ≡ (if eqb ret 3 then 0 else 1) ⌝ }
+{
+    if ret == 3 { 0 } else { 1 }
+}
+
+// The plan of a packed word whose second list begins at an index.
+fn packed_plan(word: u32, index: CodeBytes) -> Plan
+    ensures { λ r. ⌜ r ≡ packedPlanBy (fieldsOf word) index ⌝ }
+{
+    let p = packed::fields(word);
+    let length = p.length;
+    Plan {
+        span: 2 * length.0,
+        fragment: p.flag == 2,
+        count: returns(p.ret),
+        scopes: Scopes::Ending(index),
+        handler: 0,
+    }
+}
+
+// By a packed word.
+fn by_packed(
+    first: bool,
+    word: u32,
+    xdata: &[u8],
+    o: u64,
+    g: Regs,
+    base: u32,
+    stack: &[u8],
+) -> Unwound
+    ensures { λ r. ⌜ r ≡ unwound g (byPacked first word (lent base (now (stack .entry))) o g) ⌝ }
+{
+    let written = packed_codes::write_codes(word);
+    let verdict = written.verdict;
+    match verdict {
+        Verdict::Refused(why) => refused(g, why),
+        Verdict::Given => {
+            let bytes = written.bytes;
+            let plan = packed_plan(word, written.first);
+            by_plan(first, &bytes, plan, xdata, o, g, base, stack)
+        }
+    }
+}
+
+// How far the pc is into a function.
+fn offset_of(image: u32, start: u32, pc: u32) -> u64
+    ensures { λ r. ⌜ r ≡ even pc - image - start ⌝ }
+{
+    let at = words::even(pc);
+    if at < image {
+        return 0;
+    }
+    if at - image < start {
+        return 0;
+    }
+    (at - image - start) as u64
+}
+
+// By the record found.
+pub fn by_record(
+    first: bool,
+    image: u32,
+    rva: u32,
+    xdata: &[u8],
+    base: u32,
+    stack: &[u8],
+    e: Entry,
+    g: Regs,
+) -> Unwound
+    ensures { λ r. ⌜ ((p : List ℕ) → r ≡ unwound g (byRecord first (inputs image p rva (now (xdata .entry)) base (now (stack .entry))) e g)) ⌝ }
+{
+    let o = offset_of(image, e.start, g.pc);
+    let word = e.word;
+    if word % 4 == 0 {
+        return by_full(first, rva, xdata, word, o, g, base, stack);
+    }
+    by_packed(first, word, xdata, o, g, base, stack)
+}
