@@ -18,10 +18,10 @@ ghost use Rattle.words.specs.Bits.{bits};
 ghost use Rattle.words.specs.Lent.{lent};
 ghost use Rattle.words.specs.Little.{word32};
 ghost use Rattle.words.specs.Units.{halfwords, halfwordBytes};
-ghost use Rattle.unwinding.specs.Answer.{refuse, if_then_else_};
+ghost use Rattle.unwinding.specs.Answer.{ok, refuse, if_then_else_};
 ghost use Rattle.tables.specs.Xdata.{fitXdata, X, E, F, scopeCount, codesOffset, handlerOffset, recordBytes, shortHead, headAt, xdataSize, sizeAnswer, headRead, wholeRecord, longRecord};
 ghost use Rattle.tables.specs.Record.{scopeOf};
-ghost use Rattle.tables.specs.Plan.{scopeIn, resZero, scopesOf, handlerAt, planOf, afterHead, fullPlan, fullAnswer};
+ghost use Rattle.tables.specs.Plan.{scopeIn, resZero, scopesOf, handlerAt, planOf, fullBy, afterHead, fullPlan, fullAnswer};
 
 // Whether the .xdata may be lent at this RVA: 1 else.
 pub fn fit(rva: u32, xdata: &[u8]) -> bool
@@ -166,27 +166,39 @@ pub fn head_at(rva: u32, xdata: &[u8], at: u32) -> HeadRead
     short_head(rva, xdata, at, word)
 }
 
+// A refused size.
+fn no_size(why: Refusal) -> SizeOf
+    ensures { λ r. ⌜ r ≡ sizeAnswer (refuse why) ⌝ }
+{
+    SizeOf {
+        verdict: Verdict::Refused(why),
+        bytes: 0,
+    }
+}
+
+// The size of a record whose head was read.
+fn size_of(h: Head) -> SizeOf
+    requires { ⌜ recordBytes h < 4294967296 ⌝ }
+    ensures { λ r. ⌜ r ≡ sizeAnswer (ok (recordBytes h)) ⌝ }
+{
+    SizeOf {
+        verdict: Verdict::Given,
+        bytes: record_bytes(h) as u32,
+    }
+}
+
 // The size of the record at an RVA, whose low two bits are ignored.
 pub fn xdata_size(rva: u32, xdata: &[u8], at: u32) -> SizeOf
     ensures { λ r. ⌜ r ≡ sizeAnswer (xdataSize (lent rva (now (xdata .entry))) at) ⌝ }
 {
     if !fit(rva, xdata) {
-        return SizeOf {
-            verdict: Verdict::Refused(Refusal::UnfitInput),
-            bytes: 0,
-        };
+        return no_size(Refusal::UnfitInput);
     }
     let read = head_at(rva, xdata, at - at % 4);
     let verdict = read.verdict;
     match verdict {
-        Verdict::Given => SizeOf {
-            verdict: Verdict::Given,
-            bytes: record_bytes(read.head) as u32,
-        },
-        Verdict::Refused(why) => SizeOf {
-            verdict: Verdict::Refused(why),
-            bytes: 0,
-        },
+        Verdict::Given => size_of(read.head),
+        Verdict::Refused(why) => no_size(why),
     }
 }
 
@@ -321,24 +333,31 @@ fn no_full(why: Refusal) -> FullOf
     }
 }
 
-// The record of a head, if its scopes have Res 0.
-fn after_head(rva: u32, xdata: &[u8], at: u32, h: Head) -> FullOf
-    requires { ⌜ rva ≤ at ⌝ }
-    ensures { λ r. ⌜ r ≡ fullAnswer (afterHead (lent rva (now (xdata .entry))) at h) ⌝ }
+// The record of a head.
+fn full_of(rva: u32, xdata: &[u8], at: u32, h: Head) -> FullOf
+    ensures { λ r. ⌜ r ≡ fullBy (lent rva (now (xdata .entry))) at h ⌝ }
 {
-    let o = offset(rva, at);
-    if !res_zero(xdata, o + (h.bytes as usize), scope_count(h) as usize) {
-        return no_full(Refusal::Reserved);
-    }
     let len = words::code_word_bytes(h.codewords);
     FullOf {
         verdict: Verdict::Given,
         plan: plan_of(rva, xdata, at, h),
         codes: Part {
-            start: o + (codes_offset(h) as usize),
+            start: offset(rva, at) + (codes_offset(h) as usize),
             len: len.0,
         },
     }
+}
+
+// The same, if its scopes have Res 0.
+fn after_head(rva: u32, xdata: &[u8], at: u32, h: Head) -> FullOf
+    requires { ⌜ rva ≤ at ⌝ }
+    ensures { λ r. ⌜ r ≡ fullAnswer (afterHead (lent rva (now (xdata .entry))) at h) ⌝ }
+{
+    let first = offset(rva, at) + (h.bytes as usize);
+    if res_zero(xdata, first, scope_count(h) as usize) {
+        return full_of(rva, xdata, at, h);
+    }
+    no_full(Refusal::Reserved)
 }
 
 // The full record at an RVA: what its head is refused for, then scope Res 4.

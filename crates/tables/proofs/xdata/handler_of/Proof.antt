@@ -21,10 +21,16 @@ word-at-requires : tie.Need-word-at-requires
 word-at-requires c κs = search needs
 
 returns : tie.Need-returns
-returns c = let a = c .before .before .before .before .before .args in c .word-at .ensures ∙ ap (λ n. wordAt (lent (a .rva) (a .xdata .now)) (a .at + n)) (c .before .handler-offset .ensures .0) ∙ if-true (wordAt (lent (a .rva) (a .xdata .now)) (a .at + handlerOffset (a .h))) 0 (sym (c .before .before .before .has-handler .ensures) ∙ c .before .before .if1 .taken)
+returns c =
+    let a = c .before .before .before .before .before .args in
+    c .word-at .ensures
+    ∙ ap (λ n. wordAt (lent (a .rva) (a .xdata .now)) (a .at + n)) (c .before .handler-offset .ensures .0)
+    ∙ if-true (wordAt (lent (a .rva) (a .xdata .now)) (a .at + handlerOffset (a .h))) 0 (sym (c .before .before .before .has-handler .ensures) ∙ c .before .before .if1 .taken)
 
 returns-2 : tie.Need-returns-2
-returns-2 c = let a = c .before .before .before .args in if-false (wordAt (lent (a .rva) (a .xdata .now)) (a .at + handlerOffset (a .h))) 0 (sym (c .before .has-handler .ensures) ∙ c .if1 .left)
+returns-2 c =
+    let a = c .before .before .before .args in
+    if-false (wordAt (lent (a .rva) (a .xdata .now)) (a .at + handlerOffset (a .h))) 0 (sym (c .before .has-handler .ensures) ∙ c .if1 .left)
 
 pub handler-of-spec : {M : Type 1} → statement M
 handler-of-spec =

@@ -15,7 +15,10 @@ no-head-requires : tie.Need-no-head-requires
 no-head-requires c κs = search needs
 
 returns : tie.Need-returns
-returns c = let a = c .before .before .before .before .args in c .no-head .ensures ∙ ap headRead (sym (head-outside (lent (a .rva) (a .xdata .now)) (a .at) (sym (c .before .before .holds .ensures) ∙ not-true _ (c .before .if1 .taken))))
+returns c =
+    let a = c .before .before .before .before .args in
+    c .no-head .ensures
+    ∙ ap headRead (sym (head-outside (lent (a .rva) (a .xdata .now)) (a .at) (sym (c .before .before .holds .ensures) ∙ not-true _ (c .before .if1 .taken))))
 
 word-at-requires : tie.Need-word-at-requires
 word-at-requires c κs = search needs
@@ -24,19 +27,28 @@ no-head-requires-2 : tie.Need-no-head-requires-2
 no-head-requires-2 c κs = search needs
 
 returns-2 : tie.Need-returns-2
-returns-2 c = let a = c .before .before .before .before .before .before .args in c .no-head2 .ensures ∙ ap headRead (sym (head-version (lent (a .rva) (a .xdata .now)) (a .at) (c .before .before .word-at .result) (c .before .before .word-at .ensures) (sym (c .before .before .before .before .holds .ensures) ∙ not-false _ (c .before .before .before .if1 .left)) (c .before .if2 .taken)))
+returns-2 c =
+    let a = c .before .before .before .before .before .before .args in
+    c .no-head2 .ensures
+    ∙ ap headRead (sym (head-version (lent (a .rva) (a .xdata .now)) (a .at) (c .before .before .word-at .result) (c .before .before .word-at .ensures) (sym (c .before .before .before .before .holds .ensures) ∙ not-false _ (c .before .before .before .if1 .left)) (c .before .if2 .taken)))
 
 long-head-requires : tie.Need-long-head-requires
 long-head-requires c κs = search needs
 
 returns-3 : tie.Need-returns-3
-returns-3 c = let a = c .before .before .before .before .before .before .before .args in c .long-head .ensures ∙ ap headRead (sym (head-long (lent (a .rva) (a .xdata .now)) (a .at) (c .before .before .before .word-at .result) (c .before .before .before .word-at .ensures) (sym (c .before .before .before .before .before .holds .ensures) ∙ not-false _ (c .before .before .before .before .if1 .left)) (c .before .before .if2 .left) (c .before .if3 .taken)))
+returns-3 c =
+    let a = c .before .before .before .before .before .before .before .args in
+    c .long-head .ensures
+    ∙ ap headRead (sym (head-long (lent (a .rva) (a .xdata .now)) (a .at) (c .before .before .before .word-at .result) (c .before .before .before .word-at .ensures) (sym (c .before .before .before .before .before .holds .ensures) ∙ not-false _ (c .before .before .before .before .if1 .left)) (c .before .before .if2 .left) (c .before .if3 .taken)))
 
 short-head-requires : tie.Need-short-head-requires
 short-head-requires c κs = search needs
 
 returns-4 : tie.Need-returns-4
-returns-4 c = let a = c .before .before .before .before .before .before .before .args in c .short-head .ensures ∙ ap headRead (sym (head-short (lent (a .rva) (a .xdata .now)) (a .at) (c .before .before .before .word-at .result) (c .before .before .before .word-at .ensures) (sym (c .before .before .before .before .before .holds .ensures) ∙ not-false _ (c .before .before .before .before .if1 .left)) (c .before .before .if2 .left) (c .before .if3 .left)))
+returns-4 c =
+    let a = c .before .before .before .before .before .before .before .args in
+    c .short-head .ensures
+    ∙ ap headRead (sym (head-short (lent (a .rva) (a .xdata .now)) (a .at) (c .before .before .before .word-at .result) (c .before .before .before .word-at .ensures) (sym (c .before .before .before .before .before .holds .ensures) ∙ not-false _ (c .before .before .before .before .if1 .left)) (c .before .before .if2 .left) (c .before .if3 .left)))
 
 pub head-at-spec : {M : Type 1} → statement M
 head-at-spec =

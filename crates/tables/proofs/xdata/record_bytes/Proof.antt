@@ -18,13 +18,21 @@ add-result : tie.Need-add-result
 add-result c = search needs
 
 returns : tie.Need-returns
-returns c = let h = c .before .before .before .args .h in ap (λ n. n + 4) (c .handler-offset .ensures .0) ∙ ap (λ n. handlerOffset h + n) (if-true 4 0 (sym (c .before .before .has-handler .ensures) ∙ c .before .if1 .taken))
+returns c =
+    let h = c .before .before .before .args .h in
+    ap (λ n. n + 4) (c .handler-offset .ensures .0)
+    ∙ ap (λ n. handlerOffset h + n) (if-true 4 0 (sym (c .before .before .has-handler .ensures) ∙ c .before .if1 .taken))
 
 handler-offset-requires-2 : tie.Need-handler-offset-requires-2
 handler-offset-requires-2 c κs = search needs
 
 returns-2 : tie.Need-returns-2
-returns-2 c = let h = c .before .before .before .args .h in let z : handlerOffset h ≡ handlerOffset h + 0 = omega arith in c .handler-offset2 .ensures .0 ∙ z ∙ ap (λ n. handlerOffset h + n) (if-false 4 0 (sym (c .before .before .has-handler .ensures) ∙ c .before .if1 .left))
+returns-2 c =
+    let h = c .before .before .before .args .h in
+    let z : handlerOffset h ≡ handlerOffset h + 0 = omega arith in
+    c .handler-offset2 .ensures .0
+    ∙ z
+    ∙ ap (λ n. handlerOffset h + n) (if-false 4 0 (sym (c .before .before .has-handler .ensures) ∙ c .before .if1 .left))
 
 pub record-bytes-spec : {M : Type 1} → statement M
 record-bytes-spec =

@@ -19,10 +19,16 @@ scope-of-requires : tie.Need-scope-of-requires
 scope-of-requires c κs = search needs
 
 returns : tie.Need-returns
-returns c = let a = c .before .before .before .before .args in ap (λ s. scopeIn s (a .xdata .now) (a .k)) (sym (c .before .scopes .given .1))
+returns c =
+    let a = c .before .before .before .before .args in
+    ap (λ s. scopeIn s (a .xdata .now) (a .k)) (sym (c .before .scopes .given .1))
 
 returns-2 : tie.Need-returns-2
-returns-2 c = let a = c .before .before .before .before .before .before .args in c .scope-of .ensures ∙ ap scopeOf (c .before .word-after .ensures) ∙ ap (λ s. scopeIn s (a .xdata .now) (a .k)) (sym (c .before .before .before .scopes2 .given .1))
+returns-2 c =
+    let a = c .before .before .before .before .before .before .args in
+    c .scope-of .ensures
+    ∙ ap scopeOf (c .before .word-after .ensures)
+    ∙ ap (λ s. scopeIn s (a .xdata .now) (a .k)) (sym (c .before .before .before .scopes2 .given .1))
 
 pub scope-spec : {M : Type 1} → statement M
 scope-spec =

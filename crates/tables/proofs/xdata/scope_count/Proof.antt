@@ -9,10 +9,14 @@ has-last-requires : tie.Need-has-last-requires
 has-last-requires c κs = search needs
 
 returns : tie.Need-returns
-returns c = let h = c .before .before .args .h in if-true 0 (h .count) (sym (c .before .has-last .ensures) ∙ c .if1 .taken)
+returns c =
+    let h = c .before .before .args .h in
+    if-true 0 (h .count) (sym (c .before .has-last .ensures) ∙ c .if1 .taken)
 
 returns-2 : tie.Need-returns-2
-returns-2 c = let h = c .before .before .args .h in if-false 0 (h .count) (sym (c .before .has-last .ensures) ∙ c .if1 .left)
+returns-2 c =
+    let h = c .before .before .args .h in
+    if-false 0 (h .count) (sym (c .before .has-last .ensures) ∙ c .if1 .left)
 
 pub scope-count-spec : {M : Type 1} → statement M
 scope-count-spec = tie.close (tie.spec has-last-requires returns returns-2)

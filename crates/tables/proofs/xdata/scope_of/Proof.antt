@@ -14,7 +14,9 @@ cast-t8 : tie.Need-cast-t8
 cast-t8 c = search needs
 
 returns : tie.Need-returns
-returns c = let w = c .before .args .word in ap (λ n. record { start = From n; condition = w / 1048576 % 16; index = codeBytes (w / 16777216 % 256) }) (c .span-of .ensures)
+returns c =
+    let w = c .before .args .word in
+    ap (λ n. record { start = From n; condition = w / 1048576 % 16; index = codeBytes (w / 16777216 % 256) }) (c .span-of .ensures)
 
 pub scope-of-spec : {M : Type 1} → statement M
 scope-of-spec = tie.close (tie.spec span-of-requires cast-t8 returns)

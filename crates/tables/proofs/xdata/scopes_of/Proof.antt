@@ -15,7 +15,9 @@ cast-t4 : tie.Need-cast-t4
 cast-t4 c = search needs
 
 returns : tie.Need-returns
-returns c = let a = c .before .before .before .args in if-true (Ending (codeBytes (a .h .count))) (Listed (a .offset + a .h .bytes)) (sym (c .before .before .has-last .ensures) ∙ c .before .if1 .taken)
+returns c =
+    let a = c .before .before .before .args in
+    if-true (Ending (codeBytes (a .h .count))) (Listed (a .offset + a .h .bytes)) (sym (c .before .before .has-last .ensures) ∙ c .before .if1 .taken)
 
 cast-t6 : tie.Need-cast-t6
 cast-t6 c = search needs
@@ -24,7 +26,9 @@ add-t7 : tie.Need-add-t7
 add-t7 c = search needs
 
 returns-2 : tie.Need-returns-2
-returns-2 c = let a = c .before .before .before .args in if-false (Ending (codeBytes (a .h .count))) (Listed (a .offset + a .h .bytes)) (sym (c .before .before .has-last .ensures) ∙ c .before .if1 .left)
+returns-2 c =
+    let a = c .before .before .before .args in
+    if-false (Ending (codeBytes (a .h .count))) (Listed (a .offset + a .h .bytes)) (sym (c .before .before .has-last .ensures) ∙ c .before .if1 .left)
 
 pub scopes-of-spec : {M : Type 1} → statement M
 scopes-of-spec = tie.close (tie.spec has-last-requires cast-t4 returns cast-t6 add-t7 returns-2)

@@ -14,13 +14,18 @@ holds-requires : tie.Need-holds-requires
 holds-requires c κs = search needs
 
 returns : tie.Need-returns
-returns c = let a = c .before .before .before .before .args in ap headRead (sym (whole-given (lent (a .rva) (a .xdata .now)) (a .at) (a .h) (ap (holds (lent (a .rva) (a .xdata .now)) (a .at)) (sym (c .before .before .record-bytes .ensures)) ∙ sym (c .before .holds .ensures) ∙ c .if1 .taken)))
+returns c =
+    let a = c .before .before .before .before .args in
+    ap headRead (sym (whole-given (lent (a .rva) (a .xdata .now)) (a .at) (a .h) (ap (holds (lent (a .rva) (a .xdata .now)) (a .at)) (sym (c .before .before .record-bytes .ensures)) ∙ sym (c .before .holds .ensures) ∙ c .if1 .taken)))
 
 no-head-requires : tie.Need-no-head-requires
 no-head-requires c κs = search needs
 
 returns-2 : tie.Need-returns-2
-returns-2 c = let a = c .before .before .before .before .before .args in c .no-head .ensures ∙ ap headRead (sym (whole-outside (lent (a .rva) (a .xdata .now)) (a .at) (a .h) (ap (holds (lent (a .rva) (a .xdata .now)) (a .at)) (sym (c .before .before .before .record-bytes .ensures)) ∙ sym (c .before .before .holds .ensures) ∙ c .before .if1 .left)))
+returns-2 c =
+    let a = c .before .before .before .before .before .args in
+    c .no-head .ensures
+    ∙ ap headRead (sym (whole-outside (lent (a .rva) (a .xdata .now)) (a .at) (a .h) (ap (holds (lent (a .rva) (a .xdata .now)) (a .at)) (sym (c .before .before .before .record-bytes .ensures)) ∙ sym (c .before .before .holds .ensures) ∙ c .before .if1 .left)))
 
 pub whole-record-spec : {M : Type 1} → statement M
 whole-record-spec =

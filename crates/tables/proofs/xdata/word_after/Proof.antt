@@ -7,13 +7,17 @@ use Rattle.tables.proofs.xdata.word_after.Statement.{statement}
 use Rattle.tables.proofs.xdata.word_after.Tie as tie
 
 returns : tie.Need-returns
-returns c = let a = c .before .before .args in word-past (a .xdata .now) (a .at + 4 * a .k) (omega arith)
+returns c =
+    let a = c .before .before .args in
+    word-past (a .xdata .now) (a .at + 4 * a .k) (omega arith)
 
 sub-if2 : tie.Need-sub-if2
 sub-if2 c = search needs
 
 returns-2 : tie.Need-returns-2
-returns-2 c = let a = c .before .before .before .args in word-past (a .xdata .now) (a .at + 4 * a .k) (omega arith)
+returns-2 c =
+    let a = c .before .before .before .args in
+    word-past (a .xdata .now) (a .at + 4 * a .k) (omega arith)
 
 mul-word32 : tie.Need-mul-word32
 mul-word32 c = search needs

@@ -5,7 +5,6 @@ use native.Mathlib.Omega.{arith}
 use borrow.Author.Tests.{not-true, not-false}
 use borrow.Author.Needs.{needs}
 use Rattle.words.specs.Lent.{lent}
-use Rattle.words.specs.declared.Verdict.the-variants.{Given}
 use Rattle.tables.specs.Xdata.{sizeAnswer, headAt}
 use Rattle.tables.proofs.Heads.{read-given, read-refused, head-small, small-record, size-unfit, size-given, size-refused}
 use Rattle.tables.proofs.xdata.xdata_size.Statement.{statement}
@@ -14,8 +13,14 @@ use Rattle.tables.proofs.xdata.xdata_size.Tie as tie
 fit-requires : tie.Need-fit-requires
 fit-requires c κs = search needs
 
+no-size-requires : tie.Need-no-size-requires
+no-size-requires c κs = search needs
+
 returns : tie.Need-returns
-returns c = let a = c .before .before .before .args in ap sizeAnswer (sym (size-unfit (lent (a .rva) (a .xdata .now)) (a .at) (sym (c .before .fit .ensures) ∙ not-true _ (c .if1 .taken))))
+returns c =
+    let a = c .before .before .before .before .args in
+    c .no-size .ensures
+    ∙ ap sizeAnswer (sym (size-unfit (lent (a .rva) (a .xdata .now)) (a .at) (sym (c .before .before .fit .ensures) ∙ not-true _ (c .before .if1 .taken))))
 
 sub-head-at : tie.Need-sub-head-at
 sub-head-at c = search needs
@@ -26,32 +31,43 @@ head-at-requires c κs = search needs
 enum-told : tie.Need-enum-told
 enum-told c = search needs
 
-record-bytes-requires : tie.Need-record-bytes-requires
-record-bytes-requires c κs = search needs
-
-cast-t16 : tie.Need-cast-t16
-cast-t16 c = let a = c .before .before .before .before .before .before .before .args in let read = c .before .before .before .head-at .result in let e = read-given (headAt (lent (a .rva) (a .xdata .now)) (a .at - a .at % 4)) read (c .before .before .before .head-at .ensures) (c .before .enum-told .given .1) in let small = small-record (lent (a .rva) (a .xdata .now)) (a .at - a .at % 4) (read .head) (head-small (lent (a .rva) (a .xdata .now)) (a .at - a .at % 4) (read .head) e) in record { fits = omega (arith, small, c .record-bytes .ensures) }
+size-of-requires : tie.Need-size-of-requires
+size-of-requires c κs =
+    let a = c .before .before .before .before .before .before .args in
+    let h = c .before .before .head-at .result .head in
+    omega (arith, small-record (lent (a .rva) (a .xdata .now)) (a .at - a .at % 4) h (head-small (lent (a .rva) (a .xdata .now)) (a .at - a .at % 4) h (read-given (headAt (lent (a .rva) (a .xdata .now)) (a .at - a .at % 4)) (c .before .before .head-at .result) (c .before .before .head-at .ensures) (c .enum-told .given .1))))
 
 enum-known-verdict : tie.Need-enum-known-verdict
 enum-known-verdict c = search needs
 
+no-size-requires-2 : tie.Need-no-size-requires-2
+no-size-requires-2 c κs = search needs
+
 returns-2 : tie.Need-returns-2
-returns-2 c = let a = c .before .before .before .before .before .before .before .args in let read = c .before .before .before .head-at .result in ap (λ n. record { verdict = Given; bytes = n }) (c .record-bytes .ensures) ∙ ap sizeAnswer (sym (size-given (lent (a .rva) (a .xdata .now)) (a .at) (read .head) (sym (c .before .before .before .before .before .fit .ensures) ∙ not-false _ (c .before .before .before .before .if1 .left)) (read-given (headAt (lent (a .rva) (a .xdata .now)) (a .at - a .at % 4)) read (c .before .before .before .head-at .ensures) (c .before .enum-told .given .1))))
+returns-2 c =
+    let a = c .before .before .before .before .before .before .before .args in
+    let h = c .before .before .before .head-at .result .head in
+    c .size-of .ensures
+    ∙ ap sizeAnswer (sym (size-given (lent (a .rva) (a .xdata .now)) (a .at) h (sym (c .before .before .before .before .before .fit .ensures) ∙ not-false _ (c .before .before .before .before .if1 .left)) (read-given (headAt (lent (a .rva) (a .xdata .now)) (a .at - a .at % 4)) (c .before .before .before .head-at .result) (c .before .before .before .head-at .ensures) (c .before .enum-told .given .1))))
 
 returns-3 : tie.Need-returns-3
-returns-3 c = let a = c .before .before .before .before .before .before .before .args in let read = c .before .before .before .head-at .result in ap sizeAnswer (sym (size-refused (lent (a .rva) (a .xdata .now)) (a .at) _ (sym (c .before .before .before .before .before .fit .ensures) ∙ not-false _ (c .before .before .before .before .if1 .left)) (read-refused (headAt (lent (a .rva) (a .xdata .now)) (a .at - a .at % 4)) read _ (c .before .before .before .head-at .ensures) (c .before .verdict .given .1))))
+returns-3 c =
+    let a = c .before .before .before .before .before .before .before .before .args in
+    c .no-size2 .ensures
+    ∙ ap sizeAnswer (sym (size-refused (lent (a .rva) (a .xdata .now)) (a .at) _ (sym (c .before .before .before .before .before .before .fit .ensures) ∙ not-false _ (c .before .before .before .before .before .if1 .left)) (read-refused (headAt (lent (a .rva) (a .xdata .now)) (a .at - a .at % 4)) (c .before .before .before .before .head-at .result) _ (c .before .before .before .before .head-at .ensures) (c .before .before .verdict .given .1))))
 
 pub xdata-size-spec : {M : Type 1} → statement M
 xdata-size-spec =
     tie.close
     (tie.spec
     fit-requires
+    no-size-requires
     returns
     sub-head-at
     head-at-requires
     enum-told
-    record-bytes-requires
-    cast-t16
+    size-of-requires
     enum-known-verdict
+    no-size-requires-2
     returns-2
     returns-3)
