@@ -6,7 +6,6 @@ use words::Refusal;
 use words::Verdict;
 
 pub mod pdata; // .pdata records, and the record for a pc
-pub mod xdata; // .xdata records: head, size, scopes, shape
 
 // A .pdata record: its number in the table, its start RVA with bit 0 cleared, and its word 1.
 pub struct Entry {

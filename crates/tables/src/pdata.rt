@@ -9,7 +9,7 @@ ghost use Prim.Native.Nat.{_+_, _*_, _/_, _<_};
 ghost use lib.ListN.{length};
 ghost use Rattle.words.specs.Bits.{even as evenOf};
 ghost use Rattle.words.specs.Little.{word32};
-ghost use Rattle.unwinding.specs.Answer.{ok};
+ghost use Rattle.unwinding.specs.Answer.{ok, refuse};
 ghost use Rattle.unwinding.specs.View.{ascending as ascendingOf};
 ghost use Rattle.tables.specs.Pdata.{entries, entryAt, starts, lastUpTo, find as findOf, found, sound};
 
@@ -94,19 +94,26 @@ pub fn check(pdata: &[u8]) -> Sound
     }
 }
 
+// A refused finding.
+fn refused(why: Refusal) -> Found
+    ensures { λ r. ⌜ r ≡ found (refuse why) ⌝ }
+{
+    Found::Refused(why)
+}
+
 // Finding in a table that was checked: 1 for the length, 2, 3, and then the record or none.
 pub fn find_in(checked: Sound, image: u32, pdata: &[u8], pc: u32) -> Found
     ensures { λ r. ⌜ (checked ≡ sound (now (pdata .entry)) → r ≡ found (findOf image (now (pdata .entry)) pc)) ⌝ }
 {
     if !checked.whole {
-        return Found::Refused(Refusal::UnfitInput);
+        return refused(Refusal::UnfitInput);
     }
     let at = words::even(pc);
     if at < image {
-        return Found::Refused(Refusal::PcBelowBase);
+        return refused(Refusal::PcBelowBase);
     }
     if !checked.ascending {
-        return Found::Refused(Refusal::StartsNotAscending);
+        return refused(Refusal::StartsNotAscending);
     }
     search(pdata, at - image)
 }

@@ -14,10 +14,14 @@ add-t5 : tie.Need-add-t5
 add-t5 c = search needs
 
 returns : tie.Need-returns
-returns c = let p = c .before .before .before .args .p in ap stackWords (if-true _ (p .adjust) (sym (c .before .before .folded .ensures) ∙ c .before .if1 .taken))
+returns c =
+    let p = c .before .before .before .args .p in
+    ap stackWords (if-true _ (p .adjust) (sym (c .before .before .folded .ensures) ∙ c .before .if1 .taken))
 
 returns-2 : tie.Need-returns-2
-returns-2 c = let p = c .before .before .args .p in ap stackWords (if-false (p .adjust % 4 + 1) _ (sym (c .before .folded .ensures) ∙ c .if1 .left))
+returns-2 c =
+    let p = c .before .before .args .p in
+    ap stackWords (if-false (p .adjust % 4 + 1) _ (sym (c .before .folded .ensures) ∙ c .if1 .left))
 
 pub amount-spec : {M : Type 1} → statement M
 amount-spec = tie.close (tie.spec folded-requires add-t5 returns returns-2)

@@ -29,7 +29,8 @@ below-requires-8 : tie.Need-below-requires-8
 below-requires-8 c κs = search needs
 
 returns : tie.Need-returns
-returns c = rw (c .below8 .ensures, c .before .below7 .ensures, c .before .before .below6 .ensures, c .before .before .before .below5 .ensures, c .before .before .before .before .below4 .ensures, c .before .before .before .before .before .below3 .ensures, c .before .before .before .before .before .before .below2 .ensures, c .before .before .before .before .before .before .before .below .ensures) refl
+returns c =
+    rw (c .below8 .ensures, c .before .below7 .ensures, c .before .before .below6 .ensures, c .before .before .before .below5 .ensures, c .before .before .before .before .below4 .ensures, c .before .before .before .before .before .below3 .ensures, c .before .before .before .before .before .before .below2 .ensures, c .before .before .before .before .before .before .before .below .ensures) refl
 
 pub fields-fit-spec : {M : Type 1} → statement M
 fields-fit-spec =

@@ -18,7 +18,8 @@ array-read-result : tie.Need-array-read-result
 array-read-result c = search needs
 
 returns : tie.Need-returns
-returns c = (from-r4 (c .args .x) (c .pre .0) (c .pre .1), omega (arith, from-r4 (c .args .x) (c .pre .0) (c .pre .1), range-r4 (c .args .x) (c .pre .1)))
+returns c =
+    (from-r4 (c .args .x) (c .pre .0) (c .pre .1), omega (arith, from-r4 (c .args .x) (c .pre .0) (c .pre .1), range-r4 (c .args .x) (c .pre .1)))
 
 pub from-r4-spec : {M : Type 1} → statement M
 from-r4-spec = tie.close (tie.spec sub-result cast-result mul-result array-read-result returns)

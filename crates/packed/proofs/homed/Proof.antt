@@ -3,8 +3,8 @@ use Prim.Native.Nat.{_%_}
 use mathlib.Core.Path.{_∙_}
 use native.Mathlib.Omega.{arith}
 use borrow.Author.Needs.{needs}
-use Rattle.packed.proofs.Registers.{to-r3, range-r3}
 use Rattle.tables.proofs.Tests.{if-true}
+use Rattle.packed.proofs.Registers.{to-r3, range-r3}
 use Rattle.packed.proofs.homed.Statement.{statement}
 use Rattle.packed.proofs.homed.Tie as tie
 
@@ -18,7 +18,11 @@ array-read-result : tie.Need-array-read-result
 array-read-result c = search needs
 
 returns : tie.Need-returns
-returns c = let a = c .before .args in let k = a .adjust % 4 in let e = to-r3 k (omega arith) in (e ∙ if-true _ 0 (c .if1 .taken), omega (arith, e, range-r3 k))
+returns c =
+    let a = c .before .args in
+    let k = a .adjust % 4 in
+    let e = to-r3 k (omega arith) in
+    (e ∙ if-true _ 0 (c .if1 .taken), omega (arith, e, range-r3 k))
 
 returns-2 : tie.Need-returns-2
 returns-2 c = search needs

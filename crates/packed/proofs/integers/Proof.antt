@@ -13,7 +13,9 @@ list-requires : tie.Need-list-requires
 list-requires c κs = rw (c .fields .ensures) (fields-fit (c .before .args .word))
 
 returns : tie.Need-returns
-returns c = let a = c .before .before .args in (c .list .ensures .0 ∙ ap (λ p. integersOf p (a .fold)) (c .before .fields .ensures), c .list .ensures .1)
+returns c =
+    let a = c .before .before .args in
+    (c .list .ensures .0 ∙ ap (λ p. integersOf p (a .fold)) (c .before .fields .ensures), c .list .ensures .1)
 
 pub integers-spec : {M : Type 1} → statement M
 integers-spec = tie.close (tie.spec fields-requires list-requires returns)

@@ -5,8 +5,8 @@ use native.Mathlib.Omega.{arith}
 use borrow.Author.Tests.{eq-eqb, ne-eqb}
 use borrow.Author.Needs.{needs}
 use Rattle.codes.specs.Table.{range}
-use Rattle.packed.proofs.Registers.{from-r4}
 use Rattle.tables.proofs.Tests.{if-true, if-false}
+use Rattle.packed.proofs.Registers.{from-r4}
 use Rattle.packed.proofs.saved.Statement.{statement}
 use Rattle.packed.proofs.saved.Tie as tie
 
@@ -20,7 +20,9 @@ returns : tie.Need-returns
 returns c = (c .from-r4 .ensures .0 ∙ if-true _ 0 (eq-eqb _ _ (c .before .before .if1 .taken)), c .from-r4 .ensures .1)
 
 returns-2 : tie.Need-returns-2
-returns-2 c = let p = c .before .before .args .p in (if-false (range 4 (4 + p .reg)) 0 (ne-eqb _ _ (c .if1 .left)), omega arith)
+returns-2 c =
+    let p = c .before .before .args .p in
+    (if-false (range 4 (4 + p .reg)) 0 (ne-eqb _ _ (c .if1 .left)), omega arith)
 
 pub saved-spec : {M : Type 1} → statement M
 saved-spec = tie.close (tie.spec add-from-r4 from-r4-requires returns returns-2)

@@ -11,7 +11,9 @@ use Rattle.packed_codes.proofs.adjust.Statement.{statement}
 use Rattle.packed_codes.proofs.adjust.Tie as tie
 
 returns : tie.Need-returns
-returns c = let a = c .before .args in sym (puts-unless (a .o) (not (a .fold)) (upCode (amount (a .p))) (rw (c .if1 .taken) refl))
+returns c =
+    let a = c .before .args in
+    sym (puts-unless (a .o) (not (a .fold)) (upCode (amount (a .p))) (rw (c .if1 .taken) refl))
 
 amount-requires : tie.Need-amount-requires
 amount-requires c κs = search needs
@@ -20,7 +22,11 @@ up-requires : tie.Need-up-requires
 up-requires c κs = rw (c .amount .ensures) (amount-small (c .before .before .args .p) (c .before .before .pre))
 
 returns-2 : tie.Need-returns-2
-returns-2 c = let a = c .before .before .before .args in c .up .ensures ∙ ap (λ n. puts (a .o) (upCode n)) (c .before .amount .ensures) ∙ sym (puts-when (a .o) (not (a .fold)) (upCode (amount (a .p))) (rw (c .before .before .if1 .left) refl))
+returns-2 c =
+    let a = c .before .before .before .args in
+    c .up .ensures
+    ∙ ap (λ n. puts (a .o) (upCode n)) (c .before .amount .ensures)
+    ∙ sym (puts-when (a .o) (not (a .fold)) (upCode (amount (a .p))) (rw (c .before .before .if1 .left) refl))
 
 pub adjust-spec : {M : Type 1} → statement M
 adjust-spec = tie.close (tie.spec returns amount-requires up-requires returns-2)

@@ -12,10 +12,14 @@ second-list-requires : tie.Need-second-list-requires
 second-list-requires c κs = search needs
 
 sub-t9 : tie.Need-sub-t9
-sub-t9 c = let a = c .before .before .before .before .before .args in second-longer (fields (a .word)) (c .before .before .before .before .first-list .result) (c .before .before .before .second-list .result) (c .before .before .before .before .first-list .ensures) (c .before .before .before .second-list .ensures)
+sub-t9 c =
+    let a = c .before .before .before .before .before .args in
+    second-longer (fields (a .word)) (c .before .before .before .before .first-list .result) (c .before .before .before .second-list .result) (c .before .before .before .before .first-list .ensures) (c .before .before .before .second-list .ensures)
 
 returns : tie.Need-returns
-returns c = let a = c .before .before .before .before .before .args in codes-written (fields (a .word)) (c .before .before .before .before .first-list .result) (c .before .before .before .second-list .result) (c .before .before .before .before .first-list .ensures) (c .before .before .before .second-list .ensures)
+returns c =
+    let a = c .before .before .before .before .before .args in
+    codes-written (fields (a .word)) (c .before .before .before .before .first-list .result) (c .before .before .before .second-list .result) (c .before .before .before .before .first-list .ensures) (c .before .before .before .second-list .ensures)
 
 pub both-lists-spec : {M : Type 1} → statement M
 both-lists-spec = tie.close (tie.spec first-list-requires second-list-requires sub-t9 returns)

@@ -27,7 +27,8 @@ put-if-requires : tie.Need-put-if-requires
 put-if-requires c κs = search needs
 
 pop-requires : tie.Need-pop-requires
-pop-requires c κs = (c .before .before .before .integers .ensures .1, rw (c .before .before .before .before .before .fields .ensures) (fields-fit (c .before .before .before .before .before .before .args .word) .l), λ h. ltb-true _ _ h)
+pop-requires c κs =
+    (c .before .before .before .integers .ensures .1, rw (c .before .before .before .before .before .fields .ensures) (fields-fit (c .before .before .before .before .before .before .args .word) .l), λ h. ltb-true _ _ h)
 
 put-if-requires-2 : tie.Need-put-if-requires-2
 put-if-requires-2 c κs = search needs
@@ -36,7 +37,9 @@ put-requires : tie.Need-put-requires
 put-requires c κs = search needs
 
 returns : tie.Need-returns
-returns c = let a = c .before .before .before .before .before .before .before .before .before .args in rw (c .put .ensures, c .before .put-if2 .ensures, c .before .before .pop .ensures, c .before .before .before .put-if .ensures, c .before .before .before .before .vpop .ensures, c .before .before .before .before .before .adjust .ensures, c .before .before .before .before .before .before .integers .ensures .0, c .before .before .before .before .before .before .before .pf .ensures, c .before .before .before .before .before .before .before .before .fields .ensures) (sym (first-written (a .o) (fields (a .word))))
+returns c =
+    let a = c .before .before .before .before .before .before .before .before .before .args in
+    rw (c .put .ensures, c .before .put-if2 .ensures, c .before .before .pop .ensures, c .before .before .before .put-if .ensures, c .before .before .before .before .vpop .ensures, c .before .before .before .before .before .adjust .ensures, c .before .before .before .before .before .before .integers .ensures .0, c .before .before .before .before .before .before .before .pf .ensures, c .before .before .before .before .before .before .before .before .fields .ensures) (sym (first-written (a .o) (fields (a .word))))
 
 pub first-list-spec : {M : Type 1} → statement M
 first-list-spec =

@@ -13,7 +13,10 @@ leave-loading-requires : tie.Need-leave-loading-requires
 leave-loading-requires c κs = search needs
 
 returns : tie.Need-returns
-returns c = let a = c .before .before .before .args in c .leave-loading .ensures ∙ ap (puts (a .o)) (sym (leave-load (a .p) (a .registers) (sym (c .before .before .loads-lr .ensures) ∙ c .before .if1 .taken)))
+returns c =
+    let a = c .before .before .before .args in
+    c .leave-loading .ensures
+    ∙ ap (puts (a .o)) (sym (leave-load (a .p) (a .registers) (sym (c .before .before .loads-lr .ensures) ∙ c .before .if1 .taken)))
 
 pop-requires : tie.Need-pop-requires
 pop-requires c κs = search needs
@@ -22,13 +25,17 @@ put-requires : tie.Need-put-requires
 put-requires c κs = search needs
 
 returns-2 : tie.Need-returns-2
-returns-2 c = let a = c .before .before .before .before .before .before .args in rw (c .put .ensures, c .before .pop .ensures) (sym (ap (puts (a .o)) (leave-return (a .p) (a .registers) (sym (c .before .before .before .before .before .loads-lr .ensures) ∙ c .before .before .before .before .if1 .left) (c .before .before .if2 .taken)) ∙ last-written (a .o) _ 0xFF))
+returns-2 c =
+    let a = c .before .before .before .before .before .before .args in
+    rw (c .put .ensures, c .before .pop .ensures) (sym (ap (puts (a .o)) (leave-return (a .p) (a .registers) (sym (c .before .before .before .before .before .loads-lr .ensures) ∙ c .before .before .before .before .if1 .left) (c .before .before .if2 .taken)) ∙ last-written (a .o) _ 0xFF))
 
 leave-jumping-requires : tie.Need-leave-jumping-requires
 leave-jumping-requires c κs = search needs
 
 returns-3 : tie.Need-returns-3
-returns-3 c = let a = c .before .before .before .before .before .args in rw (c .leave-jumping .ensures) (ap (puts (a .o)) (sym (leave-jump (a .p) (a .registers) (sym (c .before .before .before .before .loads-lr .ensures) ∙ c .before .before .before .if1 .left) (c .before .if2 .left))))
+returns-3 c =
+    let a = c .before .before .before .before .before .args in
+    rw (c .leave-jumping .ensures) (ap (puts (a .o)) (sym (leave-jump (a .p) (a .registers) (sym (c .before .before .before .before .loads-lr .ensures) ∙ c .before .before .before .if1 .left) (c .before .if2 .left))))
 
 pub leave-spec : {M : Type 1} → statement M
 leave-spec =

@@ -16,7 +16,9 @@ narrow-requires : tie.Need-narrow-requires
 narrow-requires c κs = search needs
 
 pop-requires : tie.Need-pop-requires
-pop-requires c κs = let a = c .before .args in (c .before .pre .1, c .before .pre .0 .l, λ h. narrow-low (a .registers) (a .p .l) (sym (c .narrow .ensures) ∙ h))
+pop-requires c κs =
+    let a = c .before .args in
+    (c .before .pre .1, c .before .pre .0 .l, λ h. narrow-low (a .registers) (a .p .l) (sym (c .narrow .ensures) ∙ h))
 
 put-if-requires : tie.Need-put-if-requires
 put-if-requires c κs = search needs
@@ -31,7 +33,9 @@ put-requires : tie.Need-put-requires
 put-requires c κs = search needs
 
 returns : tie.Need-returns
-returns c = let a = c .before .before .before .before .before .args in rw (c .put .ensures, c .before .before .put-if .ensures, c .before .before .before .pop .ensures, c .before .before .before .before .narrow .ensures) (sym (jump-written (a .o) (popCode (low (a .registers) && eqb (a .p .l) 0) (a .registers) (a .p .l)) (when (eqb (a .p .h) 1) (0x04 ∷ [])) (0xFC + a .p .ret)))
+returns c =
+    let a = c .before .before .before .before .before .args in
+    rw (c .put .ensures, c .before .before .put-if .ensures, c .before .before .before .pop .ensures, c .before .before .before .before .narrow .ensures) (sym (jump-written (a .o) (popCode (low (a .registers) && eqb (a .p .l) 0) (a .registers) (a .p .l)) (when (eqb (a .p .h) 1) (0x04 ∷ [])) (0xFC + a .p .ret)))
 
 pub leave-jumping-spec : {M : Type 1} → statement M
 leave-jumping-spec =

@@ -18,7 +18,9 @@ put-requires-3 : tie.Need-put-requires-3
 put-requires-3 c κs = search needs
 
 returns : tie.Need-returns
-returns c = let a = c .before .before .before .before .args in rw (c .put3 .ensures, c .before .put2 .ensures, c .before .before .put .ensures, c .before .before .before .pop .ensures) (sym (load-written (a .o) _))
+returns c =
+    let a = c .before .before .before .before .args in
+    rw (c .put3 .ensures, c .before .put2 .ensures, c .before .before .put .ensures, c .before .before .before .pop .ensures) (sym (load-written (a .o) _))
 
 pub leave-loading-spec : {M : Type 1} → statement M
 leave-loading-spec =

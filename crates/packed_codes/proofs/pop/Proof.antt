@@ -12,19 +12,29 @@ add-if1 : tie.Need-add-if1
 add-if1 c = search needs
 
 returns : tie.Need-returns
-returns c = let a = c .before .args in sym (puts-none (a .o)) ∙ ap (puts (a .o)) (sym (pop-empty (a .narrow) (a .list) (a .lr) (c .if1 .taken)))
+returns c =
+    let a = c .before .args in
+    sym (puts-none (a .o)) ∙ ap (puts (a .o)) (sym (pop-empty (a .narrow) (a .list) (a .lr) (c .if1 .taken)))
 
 pop16-requires : tie.Need-pop16-requires
 pop16-requires c κs = (c .before .before .pre .2 (c .if2 .taken), c .before .before .pre .1)
 
 returns-2 : tie.Need-returns-2
-returns-2 c = let a = c .before .before .before .args in c .pop16 .ensures ∙ ap (λ n. puts (a .o) (popSized n (a .list) (a .lr))) (sym (c .before .if2 .taken)) ∙ ap (puts (a .o)) (sym (pop-some (a .narrow) (a .list) (a .lr) (c .before .before .if1 .left)))
+returns-2 c =
+    let a = c .before .before .before .args in
+    c .pop16 .ensures
+    ∙ ap (λ n. puts (a .o) (popSized n (a .list) (a .lr))) (sym (c .before .if2 .taken))
+    ∙ ap (puts (a .o)) (sym (pop-some (a .narrow) (a .list) (a .lr) (c .before .before .if1 .left)))
 
 pop32-requires : tie.Need-pop32-requires
 pop32-requires c κs = search needs
 
 returns-3 : tie.Need-returns-3
-returns-3 c = let a = c .before .before .before .args in c .pop32 .ensures ∙ ap (λ n. puts (a .o) (popSized n (a .list) (a .lr))) (sym (c .before .if2 .left)) ∙ ap (puts (a .o)) (sym (pop-some (a .narrow) (a .list) (a .lr) (c .before .before .if1 .left)))
+returns-3 c =
+    let a = c .before .before .before .args in
+    c .pop32 .ensures
+    ∙ ap (λ n. puts (a .o) (popSized n (a .list) (a .lr))) (sym (c .before .if2 .left))
+    ∙ ap (puts (a .o)) (sym (pop-some (a .narrow) (a .list) (a .lr) (c .before .before .if1 .left)))
 
 pub pop-spec : {M : Type 1} → statement M
 pop-spec = tie.close (tie.spec add-if1 returns pop16-requires returns-2 pop32-requires returns-3)

@@ -6,7 +6,9 @@ use Rattle.packed_codes.proofs.put.Statement.{statement}
 use Rattle.packed_codes.proofs.put.Tie as tie
 
 returns : tie.Need-returns
-returns c = let a = c .before .args in sym (put-full (a .o) (a .b) (c .if1 .taken))
+returns c =
+    let a = c .before .args in
+    sym (put-full (a .o) (a .b) (c .if1 .taken))
 
 array-write-bytes : tie.Need-array-write-bytes
 array-write-bytes c = search needs
@@ -15,7 +17,9 @@ add-t9 : tie.Need-add-t9
 add-t9 c = search needs
 
 returns-2 : tie.Need-returns-2
-returns-2 c = let a = c .before .before .args in sym (put-room (a .o) (a .b) (c .before .if1 .left))
+returns-2 c =
+    let a = c .before .before .args in
+    sym (put-room (a .o) (a .b) (c .before .if1 .left))
 
 pub put-spec : {M : Type 1} → statement M
 put-spec = tie.close (tie.spec returns array-write-bytes add-t9 returns-2)

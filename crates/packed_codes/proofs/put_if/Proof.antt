@@ -10,10 +10,14 @@ put-requires : tie.Need-put-requires
 put-requires c κs = search needs
 
 returns : tie.Need-returns
-returns c = let a = c .before .before .args in c .put .ensures ∙ sym (puts-when (a .o) _ _ (eq-eqb _ _ (c .before .if1 .taken)) ∙ puts-one (a .o) (a .b))
+returns c =
+    let a = c .before .before .args in
+    c .put .ensures ∙ sym (puts-when (a .o) _ _ (eq-eqb _ _ (c .before .if1 .taken)) ∙ puts-one (a .o) (a .b))
 
 returns-2 : tie.Need-returns-2
-returns-2 c = let a = c .before .args in sym (puts-unless (a .o) _ _ (ne-eqb _ _ (c .if1 .left)))
+returns-2 c =
+    let a = c .before .args in
+    sym (puts-unless (a .o) _ _ (ne-eqb _ _ (c .if1 .left)))
 
 pub put-if-spec : {M : Type 1} → statement M
 put-if-spec = tie.close (tie.spec put-requires returns returns-2)

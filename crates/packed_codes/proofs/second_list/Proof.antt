@@ -13,7 +13,10 @@ fields-requires : tie.Need-fields-requires
 fields-requires c κs = search needs
 
 returns : tie.Need-returns
-returns c = let a = c .before .before .before .args in sym (puts-none (a .o)) ∙ ap (puts (a .o)) (sym (second-none (fields (a .word)) (sym (ap (λ p. p .ret) (c .before .before .fields .ensures)) ∙ c .if1 .taken)))
+returns c =
+    let a = c .before .before .before .args in
+    sym (puts-none (a .o))
+    ∙ ap (puts (a .o)) (sym (second-none (fields (a .word)) (sym (ap (λ p. p .ret) (c .before .before .fields .ensures)) ∙ c .if1 .taken)))
 
 ef-requires : tie.Need-ef-requires
 ef-requires c κs = search needs
@@ -22,16 +25,20 @@ adjust-requires : tie.Need-adjust-requires
 adjust-requires c κs = rw (c .before .before .before .fields .ensures) (fields-fit (c .before .before .before .before .args .word))
 
 vpop-requires : tie.Need-vpop-requires
-vpop-requires c κs = rw (c .before .before .before .before .fields .ensures) (fields-fit (c .before .before .before .before .before .args .word))
+vpop-requires c κs =
+    rw (c .before .before .before .before .fields .ensures) (fields-fit (c .before .before .before .before .before .args .word))
 
 integers-requires : tie.Need-integers-requires
 integers-requires c κs = search needs
 
 leave-requires : tie.Need-leave-requires
-leave-requires c κs = (rw (c .before .before .before .before .before .before .fields .ensures) (fields-fit (c .before .before .before .before .before .before .before .args .word)), c .integers .ensures .1)
+leave-requires c κs =
+    (rw (c .before .before .before .before .before .before .fields .ensures) (fields-fit (c .before .before .before .before .before .before .before .args .word)), c .integers .ensures .1)
 
 returns-2 : tie.Need-returns-2
-returns-2 c = let a = c .before .before .before .before .before .before .before .before .args in rw (c .leave .ensures, c .before .integers .ensures .0, c .before .before .vpop .ensures, c .before .before .before .adjust .ensures, c .before .before .before .before .ef .ensures, c .before .before .before .before .before .before .before .fields .ensures) (sym (second-written (a .o) (fields (a .word)) (λ e. c .before .before .before .before .before .if1 .left (ap (λ p. p .ret) (c .before .before .before .before .before .before .before .fields .ensures) ∙ e))))
+returns-2 c =
+    let a = c .before .before .before .before .before .before .before .before .args in
+    rw (c .leave .ensures, c .before .integers .ensures .0, c .before .before .vpop .ensures, c .before .before .before .adjust .ensures, c .before .before .before .before .ef .ensures, c .before .before .before .before .before .before .before .fields .ensures) (sym (second-written (a .o) (fields (a .word)) (λ e. c .before .before .before .before .before .if1 .left (ap (λ p. p .ret) (c .before .before .before .before .before .before .before .fields .ensures) ∙ e))))
 
 pub second-list-spec : {M : Type 1} → statement M
 second-list-spec =

@@ -23,7 +23,9 @@ returns-4 c = rw (c .match .keys4) refl
 
 returns-5 : tie.Need-returns-5
 unfolding upTo
-returns-5 c = let r = c .match .rest in rw (ne-eqb _ _ (r .0 .0 .0 .1), ne-eqb _ _ (r .0 .0 .1), ne-eqb _ _ (r .0 .1), ne-eqb _ _ (r .1)) refl
+returns-5 c =
+    let r = c .match .rest in
+    rw (ne-eqb _ _ (r .0 .0 .0 .1), ne-eqb _ _ (r .0 .0 .1), ne-eqb _ _ (r .0 .1), ne-eqb _ _ (r .1)) refl
 
 pub top-high-spec : {M : Type 1} → statement M
 top-high-spec = tie.close (tie.spec returns returns-2 returns-3 returns-4 returns-5)

@@ -9,10 +9,14 @@ use Rattle.packed_codes.proofs.vpop.Statement.{statement}
 use Rattle.packed_codes.proofs.vpop.Tie as tie
 
 returns : tie.Need-returns
-returns c = let a = c .before .before .args in sym (puts-none (a .o)) ∙ ap (puts (a .o)) (sym (vpop-r0 (a .p) (c .if1 .taken)))
+returns c =
+    let a = c .before .before .args in
+    sym (puts-none (a .o)) ∙ ap (puts (a .o)) (sym (vpop-r0 (a .p) (c .if1 .taken)))
 
 returns-2 : tie.Need-returns-2
-returns-2 c = let a = c .before .before .before .before .args in sym (puts-none (a .o)) ∙ ap (puts (a .o)) (sym (vpop-7 (a .p) (c .before .before .if1 .left) (c .if2 .taken)))
+returns-2 c =
+    let a = c .before .before .before .before .args in
+    sym (puts-none (a .o)) ∙ ap (puts (a .o)) (sym (vpop-7 (a .p) (c .before .before .if1 .left) (c .if2 .taken)))
 
 add-put : tie.Need-add-put
 add-put c = search needs
@@ -24,7 +28,11 @@ put-requires : tie.Need-put-requires
 put-requires c κs = search needs
 
 returns-3 : tie.Need-returns-3
-returns-3 c = let a = c .before .before .before .before .before .before .args in c .put .ensures ∙ sym (puts-one (a .o) (0xE0 + a .p .reg)) ∙ ap (puts (a .o)) (sym (vpop-some (a .p) (c .before .before .before .before .if1 .left) (c .before .before .if2 .left)))
+returns-3 c =
+    let a = c .before .before .before .before .before .before .args in
+    c .put .ensures
+    ∙ sym (puts-one (a .o) (0xE0 + a .p .reg))
+    ∙ ap (puts (a .o)) (sym (vpop-some (a .p) (c .before .before .before .before .if1 .left) (c .before .before .if2 .left)))
 
 pub vpop-spec : {M : Type 1} → statement M
 vpop-spec = tie.close (tie.spec returns returns-2 add-put cast-put put-requires returns-3)

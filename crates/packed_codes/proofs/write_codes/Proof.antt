@@ -17,10 +17,15 @@ both-lists-requires : tie.Need-both-lists-requires
 both-lists-requires c κs = search needs
 
 returns : tie.Need-returns
-returns c = let a = c .before .before .before .before .args in c .both-lists .ensures ∙ ap codesAnswer (sym (codes-given (a .word) (sym (ap allowed (c .before .before .before .fields .ensures)) ∙ sym (c .before .before .allowed .ensures) ∙ c .before .if1 .taken)))
+returns c =
+    let a = c .before .before .before .before .args in
+    c .both-lists .ensures
+    ∙ ap codesAnswer (sym (codes-given (a .word) (sym (ap allowed (c .before .before .before .fields .ensures)) ∙ sym (c .before .before .allowed .ensures) ∙ c .before .if1 .taken)))
 
 returns-2 : tie.Need-returns-2
-returns-2 c = let a = c .before .before .before .args in ap codesAnswer (sym (codes-refused (a .word) (sym (ap allowed (c .before .before .fields .ensures)) ∙ sym (c .before .allowed .ensures) ∙ c .if1 .left)))
+returns-2 c =
+    let a = c .before .before .before .args in
+    ap codesAnswer (sym (codes-refused (a .word) (sym (ap allowed (c .before .before .fields .ensures)) ∙ sym (c .before .allowed .ensures) ∙ c .if1 .left)))
 
 pub write-codes-spec : {M : Type 1} → statement M
 write-codes-spec =

@@ -21,7 +21,9 @@ records-requires : tie.Need-records-requires Inv-loop μ-loop
 records-requires c κs = search needs
 
 loop-holds : tie.Need-loop-holds Inv-loop μ-loop
-loop-holds c = let s = c .before .before .args .pdata .now in (c .records .ensures, omega arith, sym (ascending-all s) ∙ ap (ascendingFrom s 0) (sym (c .records .ensures)))
+loop-holds c =
+    let s = c .before .before .args .pdata .now in
+    (c .records .ensures, omega arith, sym (ascending-all s) ∙ ap (ascendingFrom s 0) (sym (c .records .ensures)))
 
 add-loop : tie.Need-add-loop Inv-loop μ-loop
 add-loop c = search needs

@@ -73,7 +73,8 @@ returns-2 c up =
     let a = c .before .before .before .before .before .before .args in
     let l = c .before .before .before .loop in
     let e : l .low - 1 + 1 ≡ l .high = omega arith in
-    ap Record (c .entry-at .ensures) ∙ ap (λ o. found (ok o)) (sym (found-some (a .pdata .now) (a .rva) (l .low - 1) (omega arith) up (l .inv .2 (omega arith)) (λ q. rw e (l .inv .3 (omega arith)))))
+    ap Record (c .entry-at .ensures)
+    ∙ ap (λ o. found (ok o)) (sym (found-some (a .pdata .now) (a .rva) (l .low - 1) (omega arith) up (l .inv .2 (omega arith)) (λ q. rw e (l .inv .3 (omega arith)))))
 
 pub search-spec : {M : Type 1} → statement M
 search-spec =

@@ -15,7 +15,10 @@ even-requires : tie.Need-even-requires
 even-requires c κs = search needs
 
 returns : tie.Need-returns
-returns c = let a = c .before .before .before .args in let z : 8 * a .i + 0 ≡ 8 * a .i = omega arith in c .even .ensures ∙ ap even (c .before .word-of .ensures ∙ ap (word32 (a .pdata .now)) z)
+returns c =
+    let a = c .before .before .before .args in
+    let z : 8 * a .i + 0 ≡ 8 * a .i = omega arith in
+    c .even .ensures ∙ ap even (c .before .word-of .ensures ∙ ap (word32 (a .pdata .now)) z)
 
 pub start-at-spec : {M : Type 1} → statement M
 start-at-spec = tie.close (tie.spec word-of-requires even-requires returns)

@@ -7,7 +7,9 @@ use Rattle.tables.proofs.pdata.word_of.Statement.{statement}
 use Rattle.tables.proofs.pdata.word_of.Tie as tie
 
 returns : tie.Need-returns
-returns c = let a = c .before .before .args in word-past (a .pdata .now) (8 * a .i + a .k) (omega arith)
+returns c =
+    let a = c .before .before .args in
+    word-past (a .pdata .now) (8 * a .i + a .k) (omega arith)
 
 mul-word32 : tie.Need-mul-word32
 mul-word32 c = search needs

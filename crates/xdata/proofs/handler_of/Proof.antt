@@ -1,0 +1,44 @@
+-- By the test of X that the definition makes. Assumes nothing.
+use Prim.Native.Nat.{_+_}
+use mathlib.Core.Path.{sym, ap, _∙_}
+use borrow.Author.Needs.{needs}
+use Rattle.words.specs.Lent.{lent, wordAt}
+use Rattle.tables.specs.Xdata.{handlerOffset}
+use Rattle.tables.proofs.Tests.{if-true, if-false}
+use Rattle.xdata.proofs.handler_of.Statement.{statement}
+use Rattle.xdata.proofs.handler_of.Tie as tie
+
+has-handler-requires : tie.Need-has-handler-requires
+has-handler-requires c κs = search needs
+
+handler-offset-requires : tie.Need-handler-offset-requires
+handler-offset-requires c κs = search needs
+
+add-word-at : tie.Need-add-word-at
+add-word-at c = search needs
+
+word-at-requires : tie.Need-word-at-requires
+word-at-requires c κs = search needs
+
+returns : tie.Need-returns
+returns c =
+    let a = c .before .before .before .before .before .args in
+    c .word-at .ensures
+    ∙ ap (λ n. wordAt (lent (a .rva) (a .xdata .now)) (a .at + n)) (c .before .handler-offset .ensures .0)
+    ∙ if-true (wordAt (lent (a .rva) (a .xdata .now)) (a .at + handlerOffset (a .h))) 0 (sym (c .before .before .before .has-handler .ensures) ∙ c .before .before .if1 .taken)
+
+returns-2 : tie.Need-returns-2
+returns-2 c =
+    let a = c .before .before .before .args in
+    if-false (wordAt (lent (a .rva) (a .xdata .now)) (a .at + handlerOffset (a .h))) 0 (sym (c .before .has-handler .ensures) ∙ c .if1 .left)
+
+pub handler-of-spec : {M : Type 1} → statement M
+handler-of-spec =
+    tie.close
+    (tie.spec
+    has-handler-requires
+    handler-offset-requires
+    add-word-at
+    word-at-requires
+    returns
+    returns-2)

@@ -1,0 +1,46 @@
+-- By the test of X that the definition makes. Assumes nothing.
+use Prim.Native.Nat.{_+_}
+use mathlib.Core.Path.{_≡_, sym, ap, _∙_}
+use native.Mathlib.Omega.{arith}
+use borrow.Author.Needs.{needs}
+use Rattle.tables.specs.Xdata.{handlerOffset}
+use Rattle.tables.proofs.Tests.{if-true, if-false}
+use Rattle.xdata.proofs.record_bytes.Statement.{statement}
+use Rattle.xdata.proofs.record_bytes.Tie as tie
+
+has-handler-requires : tie.Need-has-handler-requires
+has-handler-requires c κs = search needs
+
+handler-offset-requires : tie.Need-handler-offset-requires
+handler-offset-requires c κs = search needs
+
+add-result : tie.Need-add-result
+add-result c = search needs
+
+returns : tie.Need-returns
+returns c =
+    let h = c .before .before .before .args .h in
+    ap (λ n. n + 4) (c .handler-offset .ensures .0)
+    ∙ ap (λ n. handlerOffset h + n) (if-true 4 0 (sym (c .before .before .has-handler .ensures) ∙ c .before .if1 .taken))
+
+handler-offset-requires-2 : tie.Need-handler-offset-requires-2
+handler-offset-requires-2 c κs = search needs
+
+returns-2 : tie.Need-returns-2
+returns-2 c =
+    let h = c .before .before .before .args .h in
+    let z : handlerOffset h ≡ handlerOffset h + 0 = omega arith in
+    c .handler-offset2 .ensures .0
+    ∙ z
+    ∙ ap (λ n. handlerOffset h + n) (if-false 4 0 (sym (c .before .before .has-handler .ensures) ∙ c .before .if1 .left))
+
+pub record-bytes-spec : {M : Type 1} → statement M
+record-bytes-spec =
+    tie.close
+    (tie.spec
+    has-handler-requires
+    handler-offset-requires
+    add-result
+    returns
+    handler-offset-requires-2
+    returns-2)
