@@ -147,7 +147,7 @@ fn by_full(
 ) -> Unwound
     ensures { λ r. ⌜ r ≡ unwound g (byFull first (lent rva (now (xdata .entry))) at (lent base (now (stack .entry))) o g) ⌝ }
 {
-    let full = tables::xdata::full(rva, xdata, at);
+    let full = xdata::full(rva, xdata, at);
     let verdict = full.verdict;
     match verdict {
         Verdict::Refused(why) => refused(g, why),

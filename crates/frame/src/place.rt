@@ -154,7 +154,7 @@ fn look(codes: &[u8], plan: Plan, xdata: &[u8], o: u64, seen: Seen) -> Looked
     let mut s = seen;
     let mut k: usize = 0;
     while k < n {
-        let way = way_of(codes, tables::xdata::scope(plan, xdata, k), span);
+        let way = way_of(codes, xdata::scope(plan, xdata, k), span);
         match way {
             WayOf::Made(w) => {
                 s = see(span, o, s, w);
