@@ -5,6 +5,7 @@
 use Prim.Native.Nat.{ℕ, _-_, _%_, _^_}
 use mathlib.Core.List.{List, map}
 use mathlib.Core.Bool.{Bool, true, false, _&&_}
+use mathlib.Core.Option.{Option}
 use lib.ListN.{length}
 use lib.Dec.{leb, ltb, eqb}
 use Rattle.words.specs.Bits.{even}
@@ -78,13 +79,18 @@ byRecord first t e g = do
   let o = even (g .pc) - t .image - e .start
   if ltb o (s .span) then within (t .stack) s o g else uncovered first g
 
+-- after the record was found: "8 for the given SP, then the record"
+abbrev pub afterFind : (first : Bool) → Inputs → Regs → Res (Option Entry) → Res Caller
+afterFind first t g found = do
+  e ← found
+  need (stands (t .stack) (g .sp)) BadStack
+  maybe e (uncovered first g) (λ e. byRecord first t e g)
+
 -- the frame, first of a walk (as one by itself is) or later
 unfoldable pub frameOf : (first : Bool) → Inputs → Regs → Res Caller
 frameOf first t g = do
   need (fitStack (t .stack) && fitXdata (t .xdata)) UnfitInput
-  e ← find (t .image) (t .pdata) (g .pc)
-  need (stands (t .stack) (g .sp)) BadStack
-  maybe e (uncovered first g) (λ e. byRecord first t e g)
+  afterFind first t g (find (t .image) (t .pdata) (g .pc))
 
 abbrev pub frame : Inputs → Regs → Res Caller
 frame t g = frameOf true t g

@@ -4,7 +4,6 @@ use super::place;
 use machine::Regs;
 use tables::Entry;
 use tables::Plan;
-use tables::Scopes;
 use words::CodeBytes;
 use words::Place;
 use words::Refusal;
@@ -13,12 +12,10 @@ ghost use mathlib.Core.Path.{_≡_};
 ghost use Prim.Native.Nat.{ℕ, _-_, _≤_};
 ghost use mathlib.Core.List.{List};
 ghost use lib.ListN.{length};
-ghost use lib.Dec.{eqb};
 ghost use Rattle.words.specs.Bits.{even};
 ghost use Rattle.words.specs.Lent.{lent};
-ghost use Rattle.unwinding.specs.Answer.{refuse, if_then_else_};
-ghost use Rattle.tables.specs.Packed.{fields as fieldsOf};
-ghost use Rattle.tables.specs.Plan.{shapeBy, packedPlanBy};
+ghost use Rattle.unwinding.specs.Answer.{refuse};
+ghost use Rattle.tables.specs.Plan.{shapeBy};
 ghost use Rattle.frame.specs.Frame.{returned as returnedOf, leafOf, uncovered as uncoveredOf, within, byRecord, inputs, unwound};
 ghost use Rattle.frame.specs.FromSpot.{ranFrom, inShape, byFull, byPacked};
 
@@ -161,28 +158,6 @@ fn by_full(
     }
 }
 
-// How many epilogues a packed record has: none if Ret=3.
-fn returns(ret: u32) -> usize
-    ensures { λ r. ⌜ r ≡ (if eqb ret 3 then 0 else 1) ⌝ }
-{
-    if ret == 3 { 0 } else { 1 }
-}
-
-// The plan of a packed word whose second list begins at an index.
-fn packed_plan(word: u32, index: CodeBytes) -> Plan
-    ensures { λ r. ⌜ r ≡ packedPlanBy (fieldsOf word) index ⌝ }
-{
-    let p = packed::fields(word);
-    let length = p.length;
-    Plan {
-        span: 2 * length.0,
-        fragment: p.flag == 2,
-        count: returns(p.ret),
-        scopes: Scopes::Ending(index),
-        handler: 0,
-    }
-}
-
 // By a packed word.
 fn by_packed(
     first: bool,
@@ -195,13 +170,13 @@ fn by_packed(
 ) -> Unwound
     ensures { λ r. ⌜ r ≡ unwound g (byPacked first word (lent base (now (stack .entry))) o g) ⌝ }
 {
-    let written = packed_codes::write_codes(word);
-    let verdict = written.verdict;
+    let packed = packed_codes::plan(word);
+    let verdict = packed.verdict;
     match verdict {
         Verdict::Refused(why) => refused(g, why),
         Verdict::Given => {
-            let bytes = written.bytes;
-            let plan = packed_plan(word, written.first);
+            let bytes = packed.bytes;
+            let plan = packed.plan;
             by_plan(first, &bytes, plan, xdata, o, g, base, stack)
         }
     }

@@ -15,7 +15,6 @@ use Rattle.frame.proofs.caller.by_full.Statement.{statement}
 use Rattle.frame.proofs.caller.by_full.Tie as tie
 use Rattle.frame.proofs.caller.by_plan.Reads as by-plan-reads
 use Rattle.frame.proofs.caller.refused.Reads as refused-reads
-use Rattle.tables.proofs.xdata.full.Reads as full-reads
 
 full-requires : tie.Need-full-requires
 full-requires c κs = search needs

@@ -14,7 +14,6 @@ use Rattle.frame.proofs.place.count_of.Reads as count-of-reads
 use Rattle.frame.proofs.place.see.Reads as see-reads
 use Rattle.frame.proofs.place.span_of.Reads as span-of-reads
 use Rattle.frame.proofs.place.way_of.Reads as way-of-reads
-use Rattle.tables.proofs.xdata.scope.Reads as scope-reads
 
 abbrev Inv-loop : tie.InvT-loop
 Inv-loop codes plan xdata o span n s₀ k₀ s k =
