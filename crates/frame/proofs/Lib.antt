@@ -5,3 +5,5 @@ pub mod Placing
 pub mod Looking
 pub mod Within
 pub mod Records
+pub mod Finding
+pub mod Bounds

@@ -1,6 +1,8 @@
 // One frame: the checks of its inputs in document 01's order, the record of its pc, the place, and the caller. It knows neither lists
 // nor files.
 use machine::Regs;
+use tables::Found;
+use tables::Sound;
 
 mod caller; // the caller by the record found
 mod place; // where an offset stands in a record
@@ -9,6 +11,16 @@ use words::CodeBytes;
 use words::Place;
 use words::Refusal;
 use words::Verdict;
+ghost use mathlib.Core.Path.{_≡_};
+ghost use mathlib.Core.Bool.{_&&_};
+ghost use mathlib.Core.List.{List};
+ghost use mathlib.Core.Option.{Option};
+ghost use Prim.Native.Nat.{ℕ};
+ghost use Rattle.words.specs.Lent.{lent};
+ghost use Rattle.unwinding.specs.Answer.{Res};
+ghost use Rattle.tables.specs.declared.Entry.{Entry};
+ghost use Rattle.tables.specs.Pdata.{found as foundOf};
+ghost use Rattle.frame.specs.Frame.{inputs, fitStack, checked, unwound, afterFind, frameOf, frame};
 
 // One frame's answer. A refusal gives back the given registers, 0 codes, handler 0 and place leaf.
 pub struct Unwound {
@@ -65,4 +77,115 @@ pub struct Spot {
     pub verdict: Verdict,
     pub place: Place,
     pub index: CodeBytes,
+}
+
+// 1 for the stack.
+fn fit_stack(base: u32, stack: &[u8]) -> bool
+    ensures { λ r. ⌜ r ≡ fitStack (lent base (now (stack .entry))) ⌝ }
+{
+    let low = base as u64;
+    let len = stack.len() as u64;
+    if base % 4 != 0 {
+        return false;
+    }
+    if len % 4 != 0 {
+        return false;
+    }
+    if 4294967292 < len {
+        return false;
+    }
+    low + len <= 4294967292
+}
+
+fn all_three(a: bool, b: bool, c: bool) -> bool
+    ensures { λ r. ⌜ r ≡ (a && b && c) ⌝ }
+{
+    if a {
+        if b {
+            return c;
+        }
+    }
+    false
+}
+
+// What the tables alone show, which a walk asks once.
+pub fn check(pdata: &[u8], rva: u32, xdata: &[u8], base: u32, stack: &[u8]) -> Checked
+    ensures { λ r. ⌜ r ≡ checked (inputs 0 (now (pdata .entry)) rva (now (xdata .entry)) base (now (stack .entry))) ⌝ }
+{
+    let sound = tables::pdata::check(pdata);
+    Checked {
+        fit: all_three(fit_stack(base, stack), xdata::fit(rva, xdata), sound.whole),
+        sorted: sound.ascending,
+    }
+}
+
+// After the record was found: 8 for the given SP, then the caller.
+fn after_find(
+    first: bool,
+    found: Found,
+    image: u32,
+    rva: u32,
+    xdata: &[u8],
+    base: u32,
+    stack: &[u8],
+    g: Regs,
+) -> Unwound
+    ensures { λ r. ⌜ ((p : List ℕ) (x : Res (Option Entry)) → found ≡ foundOf x → r ≡ unwound g (afterFind first (inputs image p rva (now (xdata .entry)) base (now (stack .entry))) g x)) ⌝ }
+{
+    match found {
+        Found::Refused(why) => caller::refused(g, why),
+        Found::Nothing => {
+            if machine::stands(base, stack, g.sp as u64) {
+                return caller::uncovered(first, g);
+            }
+            caller::refused(g, Refusal::BadStack)
+        }
+        Found::Record(e) => {
+            if machine::stands(base, stack, g.sp as u64) {
+                return caller::by_record(first, image, rva, xdata, base, stack, e, g);
+            }
+            caller::refused(g, Refusal::BadStack)
+        }
+    }
+}
+
+// One frame, first of a walk or later, over tables whose checks were made.
+pub fn frame_of(
+    first: bool,
+    c: Checked,
+    image: u32,
+    pdata: &[u8],
+    rva: u32,
+    xdata: &[u8],
+    base: u32,
+    stack: &[u8],
+    g: Regs,
+) -> Unwound
+    ensures { λ r. ⌜ (c ≡ checked (inputs image (now (pdata .entry)) rva (now (xdata .entry)) base (now (stack .entry))) → r ≡ unwound g (frameOf first (inputs image (now (pdata .entry)) rva (now (xdata .entry)) base (now (stack .entry))) g)) ⌝ }
+{
+    if c.fit {
+        let sound = Sound {
+            whole: true,
+            ascending: c.sorted,
+        };
+        let found = tables::pdata::find_in(sound, image, pdata, g.pc);
+        return after_find(first, found, image, rva, xdata, base, stack, g);
+    }
+    caller::refused(g, Refusal::UnfitInput)
+}
+
+// One frame.
+pub fn unwind(
+    image: u32,
+    pdata: &[u8],
+    rva: u32,
+    xdata: &[u8],
+    base: u32,
+    stack: &[u8],
+    g: Regs,
+) -> Unwound
+    ensures { λ r. ⌜ r ≡ unwound g (frame (inputs image (now (pdata .entry)) rva (now (xdata .entry)) base (now (stack .entry))) g) ⌝ }
+{
+    let c = check(pdata, rva, xdata, base, stack);
+    frame_of(true, c, image, pdata, rva, xdata, base, stack, g)
 }

@@ -1,0 +1,111 @@
+-- By what was found, and then by where SP stands.
+-- Assumes nothing.
+use mathlib.Core.Path.{_≡_, sym, ap, _∙_}
+use Rattle.words.specs.Lent.{lent}
+use Rattle.frame.specs.Frame.{inputs, unwound}
+use Rattle.frame.proofs.Finding.{found-refused, found-nothing, found-record, after-refused, after-fell, after-none, after-record}
+use borrow.Author.Needs.{needs}
+use Rattle.frame.proofs.after_find.Statement.{statement}
+use Rattle.frame.proofs.after_find.Tie as tie
+use Rattle.frame.proofs.caller.by_record.Reads as by-record-reads
+use Rattle.frame.proofs.caller.refused.Reads as refused-reads
+use Rattle.frame.proofs.caller.uncovered.Reads as uncovered-reads
+use Rattle.machine.proofs.stands.Reads as stands-reads
+
+enum-known-found : tie.Need-enum-known-found
+enum-known-found c = search needs
+
+refused-requires : tie.Need-refused-requires
+refused-requires c κs = search needs
+
+enum-told : tie.Need-enum-told
+enum-told c = search needs
+
+cast-stands : tie.Need-cast-stands
+cast-stands c = search needs
+
+stands-requires : tie.Need-stands-requires
+stands-requires c κs = search needs
+
+uncovered-requires : tie.Need-uncovered-requires
+uncovered-requires c κs = search needs
+
+returns : tie.Need-returns
+returns c =
+    let z = c .before .before .before .before .before .before .before .before in
+    let a = z .args in
+    λ p x q.
+    let t = inputs (a .image) p (a .rva) (a .xdata .now) (a .base) (a .stack .now) in
+    c .uncovered .ensures ∙ sym (ap (unwound (a .g)) (after-none (a .first) t (a .g) x (found-nothing x (sym q ∙ c .before .before .before .before .enum-told .given .1)) (sym (c .before .before .stands .ensures) ∙ c .before .if1 .taken)))
+
+refused-requires-2 : tie.Need-refused-requires-2
+refused-requires-2 c κs = search needs
+
+enum-known-found-2 : tie.Need-enum-known-found-2
+enum-known-found-2 c = search needs
+
+cast-stands-2 : tie.Need-cast-stands-2
+cast-stands-2 c = search needs
+
+stands-requires-2 : tie.Need-stands-requires-2
+stands-requires-2 c κs = search needs
+
+by-record-requires : tie.Need-by-record-requires
+by-record-requires c κs = search needs
+
+returns-2 : tie.Need-returns-2
+returns-2 c =
+    let z = c .before .before .before .before .before .before .before .before .before in
+    let a = z .args in
+    λ p x q.
+    let t = inputs (a .image) p (a .rva) (a .xdata .now) (a .base) (a .stack .now) in
+    c .by-record .ensures p ∙ sym (ap (unwound (a .g)) (after-record (a .first) t (a .g) x _ (found-record x _ (sym q ∙ c .before .before .before .before .before .found2 .given .1)) (sym (c .before .before .stands2 .ensures) ∙ c .before .if2 .taken)))
+
+refused-requires-3 : tie.Need-refused-requires-3
+refused-requires-3 c κs = search needs
+
+returns-3 : tie.Need-returns-3
+returns-3 c =
+    let z = c .before .before .before .before .before .before in
+    let a = z .args in
+    λ p x q.
+    let t = inputs (a .image) p (a .rva) (a .xdata .now) (a .base) (a .stack .now) in
+    c .refused .ensures ∙ sym (ap (unwound (a .g)) (after-refused (a .first) t (a .g) x _ (found-refused x _ (sym q ∙ c .before .before .found .given .1))))
+
+returns-4 : tie.Need-returns-4
+returns-4 c =
+    let z = c .before .before .before .before .before .before .before .before in
+    let a = z .args in
+    λ p x q.
+    let t = inputs (a .image) p (a .rva) (a .xdata .now) (a .base) (a .stack .now) in
+    c .refused2 .ensures ∙ sym (ap (unwound (a .g)) (after-fell (a .first) t (a .g) x _ (found-nothing x (sym q ∙ c .before .before .before .before .enum-told .given .1)) (sym (c .before .before .stands .ensures) ∙ c .before .if1 .left)))
+
+returns-5 : tie.Need-returns-5
+returns-5 c =
+    let z = c .before .before .before .before .before .before .before .before .before in
+    let a = z .args in
+    λ p x q.
+    let t = inputs (a .image) p (a .rva) (a .xdata .now) (a .base) (a .stack .now) in
+    c .refused3 .ensures ∙ sym (ap (unwound (a .g)) (after-fell (a .first) t (a .g) x _ (found-record x _ (sym q ∙ c .before .before .before .before .before .found2 .given .1)) (sym (c .before .before .stands2 .ensures) ∙ c .before .if2 .left)))
+
+pub after-find-spec : {M : Type 1} → statement M
+after-find-spec =
+    tie.close
+    (tie.spec
+    enum-known-found
+    refused-requires
+    enum-told
+    cast-stands
+    stands-requires
+    uncovered-requires
+    returns
+    refused-requires-2
+    enum-known-found-2
+    cast-stands-2
+    stands-requires-2
+    by-record-requires
+    returns-2
+    refused-requires-3
+    returns-3
+    returns-4
+    returns-5)

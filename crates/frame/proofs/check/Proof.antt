@@ -1,0 +1,28 @@
+-- Each part is the definition's test.
+-- Assumes nothing.
+use borrow.Author.Needs.{needs}
+use Rattle.frame.proofs.check.Statement.{statement}
+use Rattle.frame.proofs.check.Tie as tie
+use Rattle.frame.proofs.all_three.Reads as all-three-reads
+use Rattle.frame.proofs.fit_stack.Reads as fit-stack-reads
+use Rattle.tables.proofs.pdata.check.Reads as check-reads
+use Rattle.xdata.proofs.fit.Reads as fit-reads
+
+check-requires : tie.Need-check-requires
+check-requires c κs = search needs
+
+fit-stack-requires : tie.Need-fit-stack-requires
+fit-stack-requires c κs = search needs
+
+fit-requires : tie.Need-fit-requires
+fit-requires c κs = search needs
+
+all-three-requires : tie.Need-all-three-requires
+all-three-requires c κs = search needs
+
+returns : tie.Need-returns
+returns c = simp (c .all-three .ensures, c .before .fit .ensures, c .before .before .fit-stack .ensures, c .before .before .before .check .ensures)
+
+pub check-spec : {M : Type 1} → statement M
+check-spec =
+    tie.close (tie.spec check-requires fit-stack-requires fit-requires all-three-requires returns)

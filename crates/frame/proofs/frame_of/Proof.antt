@@ -1,0 +1,47 @@
+-- Where the checks pass, what is found by them is what the definition finds; else 1.
+-- Assumes nothing.
+use mathlib.Core.Path.{_≡_, refl, sym, ap, _∙_}
+use mathlib.Core.Bool.{true}
+use Rattle.tables.specs.declared.Sound.{Sound}
+use Rattle.tables.specs.Pdata.{find, sound}
+use Rattle.frame.specs.Frame.{inputs, unwound}
+use Rattle.frame.proofs.Finding.{frame-unfit, frame-fit}
+use borrow.Author.Needs.{needs}
+use Rattle.frame.proofs.frame_of.Statement.{statement}
+use Rattle.frame.proofs.frame_of.Tie as tie
+use Rattle.frame.proofs.after_find.Reads as after-find-reads
+use Rattle.frame.proofs.caller.refused.Reads as refused-reads
+use Rattle.tables.proofs.pdata.find_in.Reads as find-in-reads
+
+find-in-requires : tie.Need-find-in-requires
+find-in-requires c κs = search needs
+
+after-find-requires : tie.Need-after-find-requires
+after-find-requires c κs = search needs
+
+returns : tie.Need-returns
+returns c =
+    let f = c .before in
+    let z = f .before .before .before .before .before in
+    let a = z .args in
+    λ h.
+    let t = inputs (a .image) (a .pdata .now) (a .rva) (a .xdata .now) (a .base) (a .stack .now) in
+    let w = frame-fit (a .first) t (a .g) (sym (ap (λ x. x .fit) h) ∙ f .before .if1 .taken) in
+    let s : _≡_ {A = Sound} (record { whole = true; ascending = a .c .sorted }) (sound (a .pdata .now)) =
+    λ i. record { whole = sym (w .1) i; ascending = ap (λ x. x .sorted) h i } in
+    c .after-find .ensures (a .pdata .now) (find (a .image) (a .pdata .now) (a .g .pc)) (f .find-in .ensures s) ∙ sym (ap (unwound (a .g)) (w .0))
+
+refused-requires : tie.Need-refused-requires
+refused-requires c κs = search needs
+
+returns-2 : tie.Need-returns-2
+returns-2 c =
+    let z = c .before .before .before .before .before in
+    let a = z .args in
+    λ h.
+    let t = inputs (a .image) (a .pdata .now) (a .rva) (a .xdata .now) (a .base) (a .stack .now) in
+    c .refused .ensures ∙ sym (ap (unwound (a .g)) (frame-unfit (a .first) t (a .g) (sym (ap (λ x. x .fit) h) ∙ c .before .if1 .left)))
+
+pub frame-of-spec : {M : Type 1} → statement M
+frame-of-spec =
+    tie.close (tie.spec find-in-requires after-find-requires returns refused-requires returns-2)
