@@ -23,11 +23,13 @@ use Rattle.codes.specs.declared.Undo.{Undo}
 use Rattle.codes.proofs.Scanning.{scan-at}
 use Rattle.codes.specs.declared.Code.{Code}
 use Rattle.codes.specs.declared.Meaning.the-variants.{Does}
-use Rattle.tables.specs.Packed.{Fit, fields, amount, PF, EF}
+use Rattle.tables.specs.Packed.{Fit, fields, allowed, amount, PF, EF}
+use Rattle.tables.specs.declared.CodesOf.{CodesOf}
 use Rattle.tables.specs.declared.Packed.{Packed}
-use Rattle.tables.specs.PackedCodes.{when, integers, upCode, vpopCode, upTo, dForm, popSized, popCode, low, firstList, leave, secondList, written}
+use Rattle.tables.specs.PackedCodes.{when, integers, upCode, vpopCode, upTo, dForm, popSized, popCode, low, firstList, leave, secondList, written, writeCodes}
 use Rattle.packed.proofs.Registers.{integers-small}
 use Rattle.packed.proofs.Words.{fields-fit}
+use Rattle.packed_codes.proofs.Written.{codes-given, codes-refused}
 use Rattle.packed_codes.proofs.Pieces.{amount-small, leave-load, leave-return, leave-jump, second-some}
 use Rattle.packed_codes.proofs.Buffer.{holding-bytes}
 use Rattle.packed_codes.proofs.Lengths.{lists-fit}
@@ -207,3 +209,23 @@ module _ (w : ℕ) where
       let tail : drop n (written (fields w) .bytes) ≡ rest = ap (drop n) bytes-are ∙ drop-append-seam (firstList (fields w)) rest in
       decodes (written (fields w) .bytes) (codeBytes n) (e .0)
       (ap (λ x. x .ending) (scan-at (written (fields w) .bytes) n) ∙ ap (λ s. scanFrom n s 0 .ending) tail ∙ e .1)
+
+-- so of what the writer gives for a word that it accepts: both lists fit 16 bytes, and neither is refused by 6
+codes-are : (w : ℕ) (c : CodesOf) → writeCodes w ≡ ok c → written (fields w) ≡ c
+codes-are w c e = go (allowed (fields w)) refl
+  where
+    go : (t : Bool) → allowed (fields w) ≡ t → written (fields w) ≡ c
+    go true a = cc (codes-given w a)
+    go false a = absurd (let z : _≡_ {A = ℕ} 0 1 = cc (codes-refused w a) in omega arith)
+
+module _ (w : ℕ) (c : CodesOf) (e : writeCodes w ≡ ok c) where
+  pub accepted-fits : c .first .0 + c .second .0 ≤ 16
+  accepted-fits = subst (λ (c : CodesOf). c .first .0 + c .second .0 ≤ 16) (codes-are w c e) (lists-fit (fields w))
+
+  pub accepted-first : (d : Codes Code) × (codesAt (c .bytes) (codeBytes 0) ≡ ok d)
+  accepted-first =
+      subst (λ (c : CodesOf). (d : Codes Code) × (codesAt (c .bytes) (codeBytes 0) ≡ ok d)) (codes-are w c e) (first-decodes w)
+
+  pub accepted-second : (fields w .ret ≡ 3 → ⊥) → (d : Codes Code) × (codesAt (c .bytes) (c .first) ≡ ok d)
+  accepted-second t =
+      subst (λ (c : CodesOf). (d : Codes Code) × (codesAt (c .bytes) (c .first) ≡ ok d)) (codes-are w c e) (second-decodes w t)

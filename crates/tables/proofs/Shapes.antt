@@ -23,8 +23,9 @@ use Rattle.tables.specs.Xdata.{E, F, scopeCount, codesOffset, recordByte
 use Rattle.tables.specs.Packed.{fields}
 use Rattle.tables.specs.PackedCodes.{writeCodes}
 use Rattle.tables.specs.Record.{lastScope, scopeOf, scopesAt, fullShape, packedShape, shapeOf}
-use Rattle.tables.specs.Plan.{scopesFrom, resZero, scopesOf, planOf, fullBy, afterHead, fullPlan, fullAnswer, shapeBy, fullShapeBy, packedPlanBy, packedBy, packedPlan, packedAnswer, packedShapeBy}
+use Rattle.tables.specs.Plan.{scopeIn, scopesFrom, resZero, scopesOf, planOf, fullBy, afterHead, fullPlan, fullAnswer, shapeBy, fullShapeBy, packedPlanBy, packedBy, packedPlan, packedAnswer, packedShapeBy}
 use Rattle.tables.specs.declared.Head.{Head}
+use Rattle.tables.specs.declared.Scopes.{Scopes}
 use Rattle.tables.specs.declared.Scopes.the-variants.{Ending, Listed}
 use Rattle.tables.specs.declared.FullOf.{FullOf}
 use Rattle.tables.specs.declared.Packed.{Packed}
@@ -54,6 +55,19 @@ module _ (s : List ℕ) (at k n w : ℕ) (h : k < n) (e : w ≡ word32 s (at + 4
   pub res-goes-on : bits 18 2 w ≡ 0 → resZero s at k (n - k) ≡ resZero s at (k + 1) (n - (k + 1))
   res-goes-on z =
       res-next s at k n h ∙ ap (λ w. eqb (bits 18 2 w) 0 && resZero s at (k + 1) (n - (k + 1))) (sym e) ∙ rw (eq-eqb (bits 18 2 w) 0 z) refl
+
+-- a plan's scopes, one after another: what a loop over them cites
+pub scopes-all : (c : Scopes) (s : List ℕ) (n : ℕ) → scopesFrom c s 0 n ≡ scopesFrom c s 0 (n - 0)
+scopes-all c s n = let e : n ≡ n - 0 = omega arith in ap (scopesFrom c s 0) e
+
+pub scopes-done : (c : Scopes) (s : List ℕ) (k n : ℕ) → n ≤ k → scopesFrom c s k (n - k) ≡ []
+unfolding scopesFrom
+scopes-done c s k n h = let e : n - k ≡ 0 = omega arith in rw e refl
+
+pub scopes-next :
+    (c : Scopes) (s : List ℕ) (k n : ℕ) → k < n → scopesFrom c s k (n - k) ≡ scopeIn c s k ∷ scopesFrom c s (k + 1) (n - (k + 1))
+unfolding scopesFrom
+scopes-next c s k n h = let e : n - k ≡ suc (n - (k + 1)) = omega arith in rw e refl
 
 -- one scope word before others
 unfoldable stepBy : ℕ → Res (List Scope) → Res (List Scope)

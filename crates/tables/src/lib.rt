@@ -1,5 +1,5 @@
-// The unwind tables: .pdata records and the record for a pc, packed words and their code bytes, .xdata records. It knows neither
-// registers nor the stack.
+// The unwind tables: what a .pdata record, a packed word and an .xdata record are (specs/), and the record for a pc. The work on packed
+// words and on .xdata records is in the crates `packed`, `packed_codes` and `xdata`. Nothing here knows registers or the stack.
 use words::CodeBytes;
 use words::Halfwords;
 use words::Refusal;

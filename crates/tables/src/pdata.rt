@@ -64,7 +64,7 @@ pub fn ascending(pdata: &[u8]) -> bool
     true
 }
 
-// The last record that starts at or below an RVA, by halving. It holds of an ascending table.
+// The last record that starts at or below an RVA, by halving, in a table that ascends.
 pub fn search(pdata: &[u8], rva: u32) -> Found
     ensures { λ r. ⌜ (ascendingOf (starts (now (pdata .entry))) ≡ true → r ≡ found (ok (lastUpTo (entries (now (pdata .entry))) rva))) ⌝ }
 {
@@ -101,7 +101,7 @@ fn refused(why: Refusal) -> Found
     Found::Refused(why)
 }
 
-// Finding in a table that was checked: 1 for the length, 2, 3, and then the record or none.
+// Finding in a table that was checked, as a walk does for each frame: 1 for the length, 2, 3, and then the record or none.
 pub fn find_in(checked: Sound, image: u32, pdata: &[u8], pc: u32) -> Found
     ensures { λ r. ⌜ (checked ≡ sound (now (pdata .entry)) → r ≡ found (findOf image (now (pdata .entry)) pc)) ⌝ }
 {

@@ -1,4 +1,4 @@
-// .xdata records: the head, the size, the scopes, and the shape as plain values.
+// .xdata records: the head, the size, the scopes, and the shape as plain values. It knows neither registers nor the stack.
 use tables::FullOf;
 use tables::Head;
 use tables::HeadRead;
@@ -75,7 +75,8 @@ fn codes_offset(h: Head) -> u64
 fn handler_offset(h: Head) -> u64
     ensures { λ r. ⌜ (r ≡ handlerOffset h) × (r < 68719476736) ⌝ }
 {
-    codes_offset(h) + 4 * (h.codewords as u64)
+    let codes = words::code_word_bytes(h.codewords);
+    codes_offset(h) + (codes.0 as u64)
 }
 
 // The record's size.

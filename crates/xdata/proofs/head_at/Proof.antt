@@ -1,6 +1,6 @@
 -- Each return is one case of the definition by its tests, which come in its order. Assumes nothing.
-use mathlib.Core.Bool.{true}
-use mathlib.Core.Path.{_≡_, sym, ap, _∙_}
+use mathlib.Core.Bool.{Bool, true}
+use mathlib.Core.Path.{_≡_, subst, sym, ap, _∙_}
 use borrow.Author.Tests.{not-true, not-false}
 use borrow.Author.Needs.{needs}
 use Rattle.words.specs.Lent.{lent, holds}
@@ -31,7 +31,7 @@ returns-2 : tie.Need-returns-2
 returns-2 c =
     let a = c .before .before .before .before .before .before .args in
     let x = lent (a .rva) (a .xdata .now) in
-    let here : holds x (a .at) 4 ≡ true = sym (c .before .before .before .before .holds .ensures) ∙ not-false _ (c .before .before .before .if1 .left) in
+    let here : holds x (a .at) 4 ≡ true = subst (λ (t : Bool). t ≡ true) (c .before .before .before .before .holds .ensures) (not-false _ (c .before .before .before .if1 .left)) in
     c .no-head2 .ensures
     ∙ ap headRead (sym (head-version x (a .at) (c .before .before .word-at .result) (c .before .before .word-at .ensures) here (c .before .if2 .taken)))
 
@@ -42,7 +42,7 @@ returns-3 : tie.Need-returns-3
 returns-3 c =
     let a = c .before .before .before .before .before .before .before .args in
     let x = lent (a .rva) (a .xdata .now) in
-    let here : holds x (a .at) 4 ≡ true = sym (c .before .before .before .before .before .holds .ensures) ∙ not-false _ (c .before .before .before .before .if1 .left) in
+    let here : holds x (a .at) 4 ≡ true = subst (λ (t : Bool). t ≡ true) (c .before .before .before .before .before .holds .ensures) (not-false _ (c .before .before .before .before .if1 .left)) in
     c .long-head .ensures
     ∙ ap headRead (sym (head-long x (a .at) (c .before .before .before .word-at .result) (c .before .before .before .word-at .ensures) here (c .before .before .if2 .left) (c .before .if3 .taken)))
 
@@ -53,7 +53,7 @@ returns-4 : tie.Need-returns-4
 returns-4 c =
     let a = c .before .before .before .before .before .before .before .args in
     let x = lent (a .rva) (a .xdata .now) in
-    let here : holds x (a .at) 4 ≡ true = sym (c .before .before .before .before .before .holds .ensures) ∙ not-false _ (c .before .before .before .before .if1 .left) in
+    let here : holds x (a .at) 4 ≡ true = subst (λ (t : Bool). t ≡ true) (c .before .before .before .before .before .holds .ensures) (not-false _ (c .before .before .before .before .if1 .left)) in
     c .short-head .ensures
     ∙ ap headRead (sym (head-short x (a .at) (c .before .before .before .word-at .result) (c .before .before .before .word-at .ensures) here (c .before .before .if2 .left) (c .before .if3 .left)))
 
