@@ -15,6 +15,7 @@ use Rattle.walking.specs.declared.Frame.{Frame}
 use Rattle.walking.specs.declared.Stop.{Stop}
 use Rattle.walking.specs.declared.Stop.the-variants.{End, Full, Refused}
 use Rattle.walking.specs.declared.Walked.{Walked}
+use Rattle.walking.specs.declared.WalkedAll.{WalkedAll}
 
 -- 13: "a frame after the first leaves SP the same" (12 is in `frameOf`)
 unfoldable pub nextFrame : (first : Bool) → Inputs → Regs → Res Caller
@@ -54,3 +55,7 @@ walked w = record { stop = w .stop; frames = length (w .frames); codes = w .code
 
 abbrev pub filled : List Frame → Trail → List Frame
 filled lent w = w .frames ++ drop (length (w .frames)) lent
+
+-- both, for a list that goes in and comes back by value
+abbrev pub walkedAll : List Frame → Trail → WalkedAll
+walkedAll lent w = record { walked = walked w; list = filled lent w }

@@ -1,0 +1,14 @@
+-- `walking::halt` meets its contract: field by field, the pc by what `even` says.
+-- Assumes nothing.
+use borrow.Author.Needs.{needs}
+use Rattle.walking.proofs.halt.Statement.{statement}
+use Rattle.walking.proofs.halt.Tie as tie
+
+even-requires : tie.Need-even-requires
+even-requires c κs = search needs
+
+returns : tie.Need-returns
+returns c = cc
+
+pub halt-spec : {M : Type 1} → statement M
+halt-spec = tie.close (tie.spec even-requires returns)

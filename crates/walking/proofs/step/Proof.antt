@@ -1,0 +1,73 @@
+-- `walking::step` meets its contract: it makes the definition's tests in the definition's order.
+-- Assumes nothing.
+use native.Mathlib.Omega.{arith}
+use mathlib.Core.Path.{_∙_}
+use borrow.Author.Needs.{needs}
+use Rattle.walking.proofs.Turns.{end-turn, full-turn, refused-turn, gone-turn, answer-codes}
+use Rattle.walking.proofs.step.Statement.{statement}
+use Rattle.walking.proofs.step.Tie as tie
+
+halt-requires : tie.Need-halt-requires
+halt-requires c κs = search needs
+
+returns : tie.Need-returns
+returns c = c .halt .ensures ∙ end-turn _ _ _ (c .before .if1 .taken)
+
+halt-requires-2 : tie.Need-halt-requires-2
+halt-requires-2 c κs = search needs
+
+returns-2 : tie.Need-returns-2
+returns-2 c =
+    let a = c .before .before .before .before .before .before .args in
+    c .halt2 .ensures ∙ full-turn _ (a .room) (a .s) (c .before .before .if1 .left) (omega (arith, c .before .if2 .taken))
+
+next-frame-requires : tie.Need-next-frame-requires
+next-frame-requires c κs = search needs
+
+enum-known-v : tie.Need-enum-known-v
+enum-known-v c = search needs
+
+even-requires : tie.Need-even-requires
+even-requires c κs = search needs
+
+halt-requires-3 : tie.Need-halt-requires-3
+halt-requires-3 c κs = search needs
+
+enum-told : tie.Need-enum-told
+enum-told c = search needs
+
+advance-requires : tie.Need-advance-requires
+advance-requires c κs =
+    let framed = c .before .before in
+    let start = framed .before .before .before .before .before .before .before .before in
+    (start .pre .1, answer-codes _ (start .args .room) (start .args .s) (framed .next-frame .result) (framed .next-frame .ensures) (c .enum-told .given .1))
+
+returns-3 : tie.Need-returns-3
+returns-3 c =
+    let framed = c .before .before .before .before .before in
+    let tested = framed .before .before .before in
+    c .halt3 .ensures
+    ∙ rw (c .before .even .ensures) (refused-turn _ _ _ _ _ (tested .before .if1 .left) (tested .if2 .left) (framed .next-frame .ensures) (c .before .before .before .v .given .1))
+
+returns-4 : tie.Need-returns-4
+returns-4 c =
+    let framed = c .before .before .before in
+    let tested = framed .before .before .before in
+    c .advance .ensures ∙ gone-turn _ _ _ _ (tested .before .if1 .left) (tested .if2 .left) (framed .next-frame .ensures) (c .before .enum-told .given .1)
+
+pub step-spec : {M : Type 1} → statement M
+step-spec =
+    tie.close
+    (tie.spec
+    halt-requires
+    returns
+    halt-requires-2
+    returns-2
+    next-frame-requires
+    enum-known-v
+    even-requires
+    halt-requires-3
+    enum-told
+    advance-requires
+    returns-3
+    returns-4)
