@@ -1,0 +1,135 @@
+-- Where the pc stands by its offset, and which codes are left to undo there: those of the instructions done in the prologue, all of
+-- them in the body, those of the instructions to come in an epilogue.
+-- Assumes nothing.
+use Prim.Native.Nat.{ℕ, _+_, _-_, _≤_, _<_, min, max}
+use mathlib.Core.Path.{_≡_, refl, ap, _∙_, subst}
+use mathlib.Core.Bool.{Bool, true, false, _&&_, not}
+use mathlib.Core.Logic.{_⊎_, inl, inr}
+use mathlib.Core.List.{List, [], _∷_, _++_, map}
+use mathlib.Core.Option.{some}
+use lib.Dec.{leb, ltb}
+use native.Mathlib.Omega.{arith}
+use borrow.Author.Tests.{lt-ltb, le-ltb, le-leb, lt-leb, ltb-true, ltb-false, leb-true, eq-eqb, ne-eqb}
+use Rattle.words.specs.declared.Place.{Place}
+use Rattle.words.specs.declared.Place.the-variants.{Prologue, Body, Epilogue}
+use Rattle.unwinding.specs.Answer.{ok, if_then_else_}
+use Rattle.unwinding.specs.CodeList.{total, endOf}
+use Rattle.unwinding.specs.View.{Exit, View, Stretch, stretch, shared, inside, apart, allApart, ascending, fits}
+use Rattle.unwinding.specs.Todo.{always, left, inExit, inExits, todo}
+use Rattle.unwinding.specs.declared.Scope.{Scope}
+use Rattle.unwinding.proofs.Ends.{total-append, endOf-whole}
+use Rattle.codes.specs.Code.{size}
+use Rattle.codes.specs.declared.Code.{Code}
+use Rattle.forward.specs.Exits.{Of, here, later, InNone}
+use Rattle.forward.specs.Stop.{codesOf}
+use Rattle.forward.proofs.Binding.{both}
+use Rattle.forward.proofs.Scanned.{Positive}
+
+-- at the end of an instruction the codes of what is left are found
+past : (after n : ℕ) (a l : List Code) → Positive (a ++ l) → total size l + after ≡ n → endOf size after n (a ++ l) ≡ some l
+unfolding endOf total
+past after n [] l p e = endOf-whole size after n l e
+past after n (c ∷ a) l p e =
+    let h : total size (c ∷ (a ++ l)) + after ≡ n → ⊥ = λ q. omega (arith, total-append size a l, p .0) in
+    rw (ne-eqb _ _ h) (past after n a l (p .1) e)
+
+left-past : (p : Place) (after n : ℕ) (a l : List Code) → Positive (a ++ l) → total size l + after ≡ n → left size p after n (a ++ l) ≡ ok (record { place = p; codes = l })
+unfolding left
+left-past p after n a l o e = rw (past after n a l o e) refl
+
+pub todo-prologue :
+    (v : View Code) (ahead done : List Code) → codesOf v ≡ ahead ++ done → Positive (codesOf v) → total size done < v .prologue
+    → todo size v (total size done) ≡ ok (record { place = Prologue; codes = done })
+unfolding todo
+todo-prologue v ahead done e p h =
+    let q : total size done + 0 ≡ total size done = omega arith in
+    rw (lt-ltb _ _ h, e) (left-past Prologue 0 (total size done) ahead done (subst Positive e p) q)
+
+-- ---- in no epilogue
+exits-none : (es : List (Exit Code)) (o : ℕ) (cs : List Code) → InNone o es → inExits size es o cs ≡ ok (record { place = Body; codes = cs })
+unfolding inExits
+exits-none [] o cs h = refl
+exits-none (e ∷ es) o cs h = ap (λ t. if t then inExit size e o else inExits size es o cs) (out (h .0)) ∙ exits-none es o cs (h .1)
+  where
+    out : (o < e .start) ⊎ (e .start + e .size ≤ o) → (leb (e .start) o && ltb o (e .start + e .size)) ≡ false
+    out (inl l) = rw (lt-leb _ _ l) refl
+    out (inr l) = go (leb (e .start) o)
+      where
+        go : (t : Bool) → (t && ltb o (e .start + e .size)) ≡ false
+        go true = le-ltb _ _ l
+        go false = refl
+
+pub todo-body : (v : View Code) (o : ℕ) → v .prologue ≤ o → InNone o (v .exits) → todo size v o ≡ ok (record { place = Body; codes = codesOf v })
+unfolding todo
+todo-body v o h n = rw (le-ltb _ _ h) (exits-none (v .exits) o (codesOf v) n)
+
+-- ---- in an epilogue
+-- two stretches that are apart hold no offset together
+apart-not : (a b : Stretch) (o : ℕ) → not (shared a b) ≡ true → a .from ≤ o → o < a .to → b .from ≤ o → o < b .to → ⊥
+apart-not a b o h p q r s =
+    let m : max (a .from) (b .from) < min (a .to) (b .to) = omega arith in
+    let z : not (shared a b) ≡ false = rw (lt-ltb _ _ m) refl in
+    let y : _≡_ {A = ℕ} 0 1 = cc in
+    omega arith
+
+apart-of :
+    {sc : Scope} {ex : Exit Code} {scs : List Scope} {exs : List (Exit Code)} (a : Stretch) → Of sc ex scs exs → apart a (map stretch exs) ≡ true
+    → not (shared a (stretch ex)) ≡ true
+apart-of {ex} a (here {exs = exs}) h = both (not (shared a (stretch ex))) (apart a (map stretch exs)) h .0
+apart-of a (later {b = b} {exs = exs} m) h = apart-of a m (both (not (shared a (stretch b))) (apart a (map stretch exs)) h .1)
+
+found :
+    {sc : Scope} {ex : Exit Code} {scs : List Scope} {exs : List (Exit Code)} (o : ℕ) (cs : List Code) → Of sc ex scs exs → allApart (map stretch exs) ≡ true
+    → ex .start ≤ o
+    → o < ex .start + ex .size
+    → inExits size exs o cs ≡ inExit size ex o
+unfolding inExits
+found {ex} o cs (here {exs = exs}) h p q = rw (le-leb _ _ p, lt-ltb _ _ q) refl
+found {ex} o cs (later {b = b} {exs = exs} m) h p q =
+    let w = both (apart (stretch b) (map stretch exs)) (allApart (map stretch exs)) h in
+    go (leb (b .start) o) (ltb o (b .start + b .size)) refl refl (apart-of (stretch b) m (w .0)) (found o cs m (w .1) p q)
+  where
+    go :
+        (s t : Bool) → leb (b .start) o ≡ s → ltb o (b .start + b .size) ≡ t → not (shared (stretch b) (stretch ex)) ≡ true → inExits size exs o cs ≡ inExit size ex o
+        → (if s && t then inExit size b o else inExits size exs o cs) ≡ inExit size ex o
+    go true true e f n ih = absurd (apart-not (stretch b) (stretch ex) o n (leb-true _ _ e) (ltb-true _ _ f) p q)
+    go true false e f n ih = ih
+    go false t e f n ih = ih
+
+-- the prologue and the epilogues are apart
+record Apart (v : View Code) : Type 0 where
+  prologue : apart (record { from = 0; to = v .prologue }) (map stretch (v .exits)) ≡ true
+  exits : allApart (map stretch (v .exits)) ≡ true
+
+all-apart : (span : ℕ) (v : View Code) → fits span (v .prologue) (v .exits) ≡ true → Apart v
+all-apart span v h =
+    let all : List Stretch = record { from = 0; to = v .prologue } ∷ map stretch (v .exits) in
+    let a = both (inside span all && ascending (map (λ e. e .start) (v .exits))) (allApart all) h in
+    let b = both (apart (record { from = 0; to = v .prologue }) (map stretch (v .exits))) (allApart (map stretch (v .exits))) (a .1) in
+    record { prologue = b .0; exits = b .1 }
+
+pub todo-epilogue :
+    {sc : Scope} {ex : Exit Code} {scs : List Scope} (span : ℕ) (v : View Code) (done rest : List Code) → fits span (v .prologue) (v .exits) ≡ true
+    → Of sc ex scs (v .exits)
+    → ex .condition ≡ always
+    → ex .size ≡ total size (ex .codes .list) + ex .codes .endSize
+    → Positive (ex .codes .list)
+    → ex .codes .list ≡ done ++ rest
+    → total size done < ex .size
+    → todo size v (ex .start + total size done) ≡ ok (record { place = Epilogue; codes = rest })
+unfolding todo inExit
+todo-epilogue {ex} span v done rest f m c z p e h =
+    let o : ℕ = ex .start + total size done in
+    let a = all-apart span v f in
+    let late : v .prologue ≤ o = low a (ltb o (v .prologue)) refl in
+    let n : total size rest + ex .codes .endSize ≡ ex .start + ex .size - o = omega (arith, z, ap (total size) e, total-append size done rest) in
+    rw (le-ltb o (v .prologue) late)
+    (found o (codesOf v) m (a .exits) (omega arith) (omega arith)
+    ∙ rw (e, left-past Epilogue (ex .codes .endSize) (ex .start + ex .size - o) done rest (subst Positive e p) n, eq-eqb (ex .condition) always c) refl)
+  where
+    low : Apart v → (t : Bool) → ltb (ex .start + total size done) (v .prologue) ≡ t → v .prologue ≤ ex .start + total size done
+    low a true q =
+        absurd
+        (let p : Stretch = record { from = 0; to = v .prologue } in
+        apart-not p (stretch ex) (ex .start + total size done) (apart-of p m (a .prologue)) (omega arith) (ltb-true _ _ q) (omega arith) (omega arith))
+    low a false q = ltb-false _ _ q

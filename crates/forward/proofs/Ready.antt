@@ -1,0 +1,93 @@
+-- At each stop the codes left to undo there are those of the instructions to undo, and the invariant holds of them.
+-- Assumes nothing.
+use Prim.Native.Nat.{ℕ, _%_, _≤_}
+use mathlib.Core.Path.{_≡_, refl, sym, subst}
+use mathlib.Core.List.{List, [], _∷_, _++_}
+use native.Mathlib.Omega.{arith}
+use Rattle.words.specs.Lent.{Lent, end, wordAt}
+use Rattle.words.specs.declared.Place.{Place}
+use Rattle.words.specs.declared.Place.the-variants.{Prologue, Body, Epilogue}
+use Rattle.unwinding.specs.Answer.{ok}
+use Rattle.unwinding.specs.CodeList.{total}
+use Rattle.unwinding.specs.Shape.{Shape}
+use Rattle.unwinding.specs.View.{Exit, View}
+use Rattle.unwinding.specs.Todo.{todo}
+use Rattle.unwinding.specs.declared.Scope.{Scope}
+use Rattle.codes.specs.Code.{size}
+use Rattle.codes.specs.declared.Code.{Code}
+use Rattle.tables.specs.declared.Entry.{Entry}
+use Rattle.forward.specs.Saving.{RX}
+use Rattle.forward.specs.State.{State}
+use Rattle.forward.specs.Exits.{Of, Fit}
+use Rattle.forward.specs.Stop.{codesOf, InPrologue, InBody, InEpilogue, Stopped, prologue, body, epilogue}
+use Rattle.forward.proofs.Ops.{Seen}
+use Rattle.forward.proofs.Back.{St, Inv}
+use Rattle.forward.proofs.Flat.{flat}
+use Rattle.forward.proofs.Steps.{seen, st, inv-prologue, inv-body}
+use Rattle.forward.proofs.Undoing.{AllSound}
+use Rattle.forward.proofs.Leaving.{inv-left, left-stack}
+use Rattle.forward.proofs.Scanned.{codes-fair}
+use Rattle.forward.proofs.Viewed.{Viewed, read-of}
+use Rattle.forward.proofs.Placed.{todo-prologue, todo-body, todo-epilogue}
+
+-- the second list undoes what the first does
+pub record Second (first second : List Code) : Type 0 where
+  pub inv : (base : ℕ) (e : St) (b : Seen) (m : ℕ → ℕ) → Inv base e (flat first) b m → Inv base e (flat second) b m
+  pub rX : (x : ℕ) → RX second x → RX first x
+
+pub record Ready (v : View Code) (entry : State) (o : ℕ) (now : State) (p : Place) (cs : List Code) : Type 0 where
+  pub todo : todo size v o ≡ ok (record { place = p; codes = cs })
+  pub sound : AllSound cs
+  pub inv : Inv (now .stack .base) (st entry) (flat cs) (seen (now .regs)) (wordAt (now .stack))
+
+sound-end : (a b : List Code) → AllSound (a ++ b) → AllSound b
+sound-end [] b h = h
+sound-end (c ∷ a) b h = sound-end a b (h .1)
+
+module _ (r : Entry) (s : Shape) (v : View Code) (entry : State) (w : Viewed s v) (al : entry .regs .sp % 4 ≡ 0) where
+  ready-prologue : {o : ℕ} {now : State} {cs : List Code} → InPrologue v entry o now cs → Ready v entry o now Prologue cs
+  ready-prologue {o} {cs = cs} h =
+      let f = codes-fair _ _ _ (w .codes) in
+      let e : total size cs ≡ o = sym (h .offset) in
+      record {
+        todo = subst (λ n. todo size v n ≡ ok (record { place = Prologue; codes = cs })) e (todo-prologue v (h .ahead) cs (h .codes) (f .1) (omega (arith, e, h .early)));
+        sound = sound-end (h .ahead) cs (subst AllSound (h .codes) (f .0));
+        inv = inv-prologue al (h .done) (h .stays);
+      }
+
+  ready-body : {o : ℕ} {now : State} → InBody v entry o now → Ready v entry o now Body (codesOf v)
+  ready-body {o} h = record {
+    todo = todo-body v o (h .late) (h .outside);
+    sound = codes-fair _ _ _ (w .codes) .0;
+    inv = inv-body al (h .past .done) (h .past .stays) (h .past .keeps);
+  }
+
+  ready-epilogue :
+      {o : ℕ} {now : State} {cs : List Code} (h : InEpilogue r s v entry o now cs) → entry .regs .sp ≤ end (now .stack) → Second (codesOf v) (h .exit .codes .list)
+      → Ready v entry o now Epilogue cs
+  ready-epilogue {o} {now} {cs} h top q =
+      let x = read-of s (w .exits) (h .listed) in
+      let fair = codes-fair _ _ _ (x .codes) in
+      let k : Lent = h .start .stack in
+      let stack : now .stack ≡ k = left-stack (h .ran) in
+      let sound : AllSound (h .gone ++ cs) = subst AllSound (h .codes) (fair .0) in
+      let i = q .inv _ _ _ _ (inv-body al (h .past .done) (h .past .stays) (h .past .keeps)) in
+      let j = inv-left k (st entry) al (subst (λ (y : Lent). entry .regs .sp ≤ end y) stack top) (RX (codesOf v)) cs sound
+      (λ x a. q .rX x (subst (λ y. RX y x) (sym (h .codes)) a)) (h .ran) refl
+      (subst (λ y. Inv (k .base) (st entry) (flat y) (seen (h .start .regs)) (wordAt k)) (h .codes) i) in
+      record {
+        todo = subst (λ n. todo size v n ≡ ok (record { place = Epilogue; codes = cs })) (sym (h .offset))
+            (todo-epilogue (s .span) v (h .gone) cs (w .fit) (h .listed) (h .unconditional) (x .long) (fair .1) (h .codes) (h .inside));
+        sound = sound-end (h .gone) cs sound;
+        inv = subst (λ (y : Lent). Inv (y .base) (st entry) (flat cs) (seen (now .regs)) (wordAt y)) (sym stack) j;
+      }
+
+  pub ready :
+      {o : ℕ} {now : State} {p : Place} {cs : List Code}
+      → ((sc : Scope) (ex : Exit Code) → Of sc ex (s .scopes) (v .exits) → Fit r sc → Second (codesOf v) (ex .codes .list))
+      → entry .regs .sp ≤ end (now .stack)
+      → Stopped r s v entry o now p cs
+      → Ready v entry o now p cs
+  ready second top (prologue h) = ready-prologue h
+  ready second top (body h) = ready-body h
+  ready second top (epilogue h) = ready-epilogue h top (second (h .scope) (h .exit) (h .listed) (h .fit))

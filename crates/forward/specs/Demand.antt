@@ -1,0 +1,71 @@
+-- Demand 3: one frame finds the caller of a function that was stopped at an instruction boundary, whatever its registers were at entry.
+use Prim.Native.Nat.{ℕ, _-_, _%_, _≤_, _<_}
+use mathlib.Core.Path.{_≡_}
+use mathlib.Core.List.{List}
+use mathlib.Core.Bool.{true, _&&_}
+use mathlib.Core.Option.{some}
+use lib.ListN.{length, getD}
+use Rattle.words.specs.Bits.{even}
+use Rattle.words.specs.Lent.{Lent, end}
+use Rattle.words.specs.declared.Place.{Place}
+use Rattle.unwinding.specs.Answer.{Res, ok}
+use Rattle.unwinding.specs.Shape.{Shape}
+use Rattle.unwinding.specs.View as Views
+use Rattle.codes.specs.Code.{size, codesAt}
+use Rattle.codes.specs.declared.Code.{Code}
+use Rattle.machine.specs.Registers.{reg}
+use Rattle.machine.specs.declared.Regs.{Regs}
+use Rattle.tables.specs.Pdata.{find}
+use Rattle.tables.specs.Xdata.{fitXdata}
+use Rattle.tables.specs.Record.{shapeOf}
+use Rattle.tables.specs.declared.Entry.{Entry}
+use Rattle.frame.specs.Frame.{Inputs, Caller, fitStack}
+use Rattle.forward.specs.State.{State, Outside}
+use Rattle.forward.specs.Stop.{Stopped}
+
+-- the inputs, but for the stack
+abbrev pub lending : Inputs → Lent → Inputs
+lending t k = record { image = t .image; pdata = t .pdata; xdata = t .xdata; stack = k }
+
+-- what is asked of a function that was entered in one state and is now in another
+pub record Asked (t : Inputs) (entry now : State) : Type 0 where
+  -- "The tables pass 1 to 3 and the record found is this function's and covers the pc; it passes 4 to 7"
+  pub passes1 : (fitStack (t .stack) && fitXdata (t .xdata)) ≡ true
+  pub own : Entry
+  pub found : find (t .image) (t .pdata) (now .regs .pc) ≡ ok (some own)
+  pub shape : Shape
+  pub passes4-5 : shapeOf (t .xdata) own ≡ ok shape
+  pub view : Views.View Code
+  pub passes6-7 : Views.view size codesAt shape ≡ ok view
+  pub offset : ℕ
+  pub here : offset ≡ even (now .regs .pc) - t .image - own .start
+  pub covers : offset < shape .span
+  -- "entry SP is a multiple of 4 and it and the prologue stay in the lent stack"
+  pub aligned : entry .regs .sp % 4 ≡ 0
+  pub lent : entry .regs .sp ≤ end (t .stack)
+  pub stack : now .stack ≡ t .stack
+  pub place : Place
+  pub undone : List Code
+  pub stopped : Stopped own shape view entry offset now place undone
+
+-- the answer: the caller's SP, pc, r4-r11 and d8-d15 are those at entry, "the return address compared with bit 0 cleared"; the place,
+-- the handler and the count of the codes run
+pub record Answer (entry : State) (p : Place) (rva : ℕ) (undone : List Code) (c : Caller) : Type 0 where
+  pub sp : c .regs .sp ≡ entry .regs .sp
+  pub pc : c .regs .pc ≡ even (entry .regs .lr)
+  pub r : (x : ℕ) → 4 ≤ x → x ≤ 11 → reg (c .regs) x ≡ reg (entry .regs) x
+  pub d : (x : ℕ) → 8 ≤ x → x ≤ 15 → getD (c .regs .d) x 0 ≡ getD (entry .regs .d) x 0
+  pub place : c .place ≡ p
+  pub handler : c .handler ≡ rva
+  pub codes : c .codes ≡ length undone
+
+-- "Not read means: other values in those words change nothing in the answer": those at or above the caller's SP
+pub record Finds (unwind : Inputs → Regs → Res Caller) (t : Inputs) (entry now : State) (p : Place) (rva : ℕ) (undone : List Code) : Type 0 where
+  pub caller : Caller
+  pub given : (k : Lent) → Outside (entry .regs .sp) (end (t .stack)) (t .stack) k → unwind (lending t k) (now .regs) ≡ ok caller
+  pub answer : Answer entry p rva undone caller
+
+unfoldable pub Demand3 : (Inputs → Regs → Res Caller) → Type 0
+Demand3 unwind =
+    (t : Inputs) (entry now : State) (asked : Asked t entry now)
+    → Finds unwind t entry now (asked .place) (asked .shape .handler) (asked .undone)

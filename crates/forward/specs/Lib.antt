@@ -1,0 +1,10 @@
+pub mod Registers
+pub mod Saving
+pub mod State
+pub mod Prologue
+pub mod Body
+pub mod Epilogue
+pub mod Exits
+pub mod Stop
+pub mod Demand
+pub mod Met

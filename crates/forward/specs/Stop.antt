@@ -1,0 +1,73 @@
+-- A function, entered in a state and stopped at an instruction boundary of its own, with what is to be said of it: the place, which goes
+-- by the pc, and the codes of the instructions to undo. "Instructions stand one for each code (none for FF, nor for a prologue's end
+-- code), end to end from the function's start or the epilogue's, each of its code's size": so sizes of codes add up to offsets.
+use Prim.Native.Nat.{ℕ, _+_, _≤_, _<_}
+use mathlib.Core.Path.{_≡_}
+use mathlib.Core.List.{List, _++_}
+use Rattle.words.specs.declared.Place.{Place}
+use Rattle.words.specs.declared.Place.the-variants.{Prologue, Body, Epilogue}
+use Rattle.unwinding.specs.CodeList.{total}
+use Rattle.unwinding.specs.Shape.{Shape}
+use Rattle.unwinding.specs.View.{View, Exit}
+use Rattle.unwinding.specs.Todo.{always}
+use Rattle.unwinding.specs.declared.Scope.{Scope}
+use Rattle.codes.specs.Code.{size}
+use Rattle.codes.specs.declared.Code.{Code}
+use Rattle.tables.specs.declared.Entry.{Entry}
+use Rattle.forward.specs.Saving.{RX}
+use Rattle.forward.specs.State.{State}
+use Rattle.forward.specs.Prologue.{Done}
+use Rattle.forward.specs.Body as Kept
+use Rattle.forward.specs.Epilogue.{Ran}
+use Rattle.forward.specs.Exits.{Of, InNone, Fit}
+
+-- the codes from index 0
+abbrev pub codesOf : View Code → List Code
+codesOf v = v .codes .list
+
+-- the prologue stays in the lent stack: its last SP is its lowest
+abbrev pub InStack : State → Type 0
+InStack s = s .stack .base ≤ s .regs .sp
+
+pub record InPrologue (v : View Code) (entry : State) (o : ℕ) (now : State) (undone : List Code) : Type 0 where
+  pub ahead : List Code
+  pub codes : codesOf v ≡ ahead ++ undone
+  pub offset : o ≡ total size undone
+  pub early : o < v .prologue
+  pub done : Done entry undone now
+  pub stays : InStack now
+
+-- the whole prologue was left, and the body kept of it what it must. "Records without prologue start in the state the whole prologue
+-- would have left."
+pub record Past (cs : List Code) (entry now : State) : Type 0 where
+  pub left : State
+  pub done : Done entry cs left
+  pub stays : InStack left
+  pub keeps : Kept.Body cs left now
+
+pub record InBody (v : View Code) (entry : State) (o : ℕ) (now : State) : Type 0 where
+  pub late : v .prologue ≤ o
+  pub outside : InNone o (v .exits)
+  pub past : Past (codesOf v) entry now
+
+pub record InEpilogue (r : Entry) (s : Shape) (v : View Code) (entry : State) (o : ℕ) (now : State) (undone : List Code) : Type 0 where
+  pub scope : Scope
+  pub exit : Exit Code
+  pub listed : Of scope exit (s .scopes) (v .exits)
+  pub fit : Fit r scope
+  -- "The epilogue is unconditional"
+  pub unconditional : exit .condition ≡ always
+  pub gone : List Code
+  pub codes : exit .codes .list ≡ gone ++ undone
+  pub offset : o ≡ exit .start + total size gone
+  -- "its last one leaves the function"
+  pub inside : total size gone < exit .size
+  pub start : State
+  pub past : Past (codesOf v) entry start
+  -- "each instruction does what its code does"
+  pub ran : Ran (RX (codesOf v)) gone start now
+
+pub data Stopped (r : Entry) (s : Shape) (v : View Code) (entry : State) (o : ℕ) (now : State) : Place → List Code → Type 0 where
+  prologue : {undone : List Code} → InPrologue v entry o now undone → Stopped r s v entry o now Prologue undone
+  body : InBody v entry o now → Stopped r s v entry o now Body (codesOf v)
+  epilogue : {undone : List Code} → InEpilogue r s v entry o now undone → Stopped r s v entry o now Epilogue undone
