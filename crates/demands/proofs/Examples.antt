@@ -29,7 +29,7 @@ use Rattle.walking.specs.Walk.{walk}
 use Rattle.walking.specs.declared.Stop.the-variants.{End}
 use Rattle.report.specs.Report.{report, mark}
 use Rattle.report.specs.Listing.{listing}
-use Rattle.report.specs.Text.{text}
+use Rattle.text.specs.Text.{text}
 use Rattle.report.proofs.Opened.{opened}
 use Rattle.words.proofs.Bytes.{bytesOf}
 use Rattle.tables.proofs.At.{at, says}

@@ -7,7 +7,7 @@ use lib.ListN.{replicate}
 use Rattle.words.specs.declared.Refusal.the-variants.{UnfitReport}
 use Rattle.unwinding.specs.Answer.{refuse}
 use Rattle.report.specs.Report.{report, mark}
-use Rattle.report.specs.Text.{text}
+use Rattle.text.specs.Text.{text}
 use Rattle.report.specs.Listing.{listing}
 use Rattle.words.proofs.Bytes.{bytesOf}
 use Rattle.report.proofs.Opened.{opened}

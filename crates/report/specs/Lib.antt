@@ -1,3 +1,3 @@
 pub mod Report
-pub mod Text
+pub mod Parts
 pub mod Listing

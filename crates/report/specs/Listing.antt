@@ -10,7 +10,7 @@
 use Prim.Native.Nat.{ℕ, _+_}
 use Prim.Native.String.{String}
 use mathlib.Core.List.{List, [], _∷_, _++_}
-use lib.ListN.{length}
+use lib.ListN.{length, take}
 use Rattle.words.specs.Refusals.{number}
 use Rattle.words.specs.declared.Refusal.{Refusal}
 use Rattle.words.specs.declared.Place.{Place}
@@ -20,8 +20,9 @@ use Rattle.walking.specs.Walk.{Trail, walk}
 use Rattle.walking.specs.declared.Frame.{Frame}
 use Rattle.walking.specs.declared.Stop.{Stop}
 use Rattle.walking.specs.declared.Stop.the-variants.{End, Full, Refused}
+use Rattle.walking.specs.declared.WalkedAll.{WalkedAll}
 use Rattle.report.specs.Report.{report}
-use Rattle.report.specs.Text.{text, decimal, hex8}
+use Rattle.text.specs.Text.{text, decimal, hex8}
 
 abbrev pub placeName : Place → String
 placeName Leaf = "leaf"
@@ -46,8 +47,16 @@ unfoldable pub frameLines : ℕ → List Frame → List ℕ
 frameLines n [] = []
 frameLines n (f ∷ fs) = frameLine n f ++ frameLines (n + 1) fs
 
+-- the last line, of a stop, a number of frames and a sum of codes
+abbrev pub lastOf : Stop → (frames codes : ℕ) → List ℕ
+lastOf s n k = stopText s ++ text " frames " ++ decimal n ++ text " codes " ++ decimal k ++ text "\n"
+
 abbrev pub lastLine : Trail → List ℕ
-lastLine w = stopText (w .stop) ++ text " frames " ++ decimal (length (w .frames)) ++ text " codes " ++ decimal (w .codes) ++ text "\n"
+lastLine w = lastOf (w .stop) (length (w .frames)) (w .codes)
+
+-- the walk that an answer with its list is of
+abbrev pub trailOf : WalkedAll → Trail
+trailOf a = record { frames = take (a .walked .frames) (a .list); stop = a .walked .stop; codes = a .walked .codes }
 
 unfoldable pub printed : Trail → List ℕ
 printed w = text "frame pc sp place\n" ++ frameLines 0 (w .frames) ++ lastLine w

@@ -3,7 +3,7 @@ use Prim.Native.Nat.{ℕ, zero, suc, _+_, _/_, _%_}
 use Prim.Native.Char.{code}
 use Prim.Native.String.{String}
 use Prim.Native.String as Native
-use mathlib.Core.List.{List, [], _∷_}
+use mathlib.Core.List.{List, [], _∷_, _++_}
 use lib.Dec.{ltb}
 use Rattle.unwinding.specs.Answer.{if_then_else_}
 
@@ -30,3 +30,11 @@ decimal v = digits 10 (decimalLength 20 v) v []
 
 abbrev pub hex8 : ℕ → List ℕ
 hex8 v = digits 16 8 v []
+
+abbrev pub hex16 : ℕ → List ℕ
+hex16 v = digits 16 16 v []
+
+-- n texts one after the other, by number, the first of which has number k
+unfoldable pub numbered : (ℕ → List ℕ) → (k n : ℕ) → List ℕ
+numbered f k zero = []
+numbered f k (suc n) = f k ++ numbered f (k + 1) n

@@ -1,0 +1,68 @@
+-- The loop's invariant: the registers below `i` are right. The measure is what is left of 32.
+-- Assumes nothing.
+use Prim.Native.Nat.{ℕ, _+_, _-_, _*_, _≤_, _<_}
+use mathlib.Core.Path.{_≡_}
+use lib.ListN.{length, getD, length-set}
+use native.Mathlib.Omega.{arith}
+use borrow.Author.Needs.{needs}
+use Rattle.words.specs.Little.{word64}
+use Rattle.report.proofs.Files.{stored, words64-is}
+use Rattle.report.proofs.doubles.Statement.{statement}
+use Rattle.report.proofs.doubles.Tie as tie
+
+abbrev Inv-loop : tie.InvT-loop
+Inv-loop file d₀ i₀ d i =
+    (i ≤ 32) × (length d ≡ 32) × ((k : ℕ) → k < i → getD d k 0 ≡ word64 file (96 + 8 * k))
+
+abbrev μ-loop : tie.MeasureT-loop
+μ-loop file d₀ i₀ d i = 32 - i
+
+loop-holds : tie.Need-loop-holds Inv-loop μ-loop
+loop-holds c = (omega arith, omega arith, λ k h. absurd (omega arith))
+
+mul-word64 : tie.Need-mul-word64 Inv-loop μ-loop
+mul-word64 c = omega arith
+
+add-word64 : tie.Need-add-word64 Inv-loop μ-loop
+add-word64 c = omega arith
+
+word64-requires : tie.Need-word64-requires Inv-loop μ-loop
+word64-requires c κs = search needs
+
+mul-d : tie.Need-mul-d Inv-loop μ-loop
+mul-d c = omega arith
+
+array-write-d : tie.Need-array-write-d Inv-loop μ-loop
+array-write-d c = omega arith
+
+add-i : tie.Need-add-i Inv-loop μ-loop
+add-i c = omega arith
+
+loop-less : tie.Need-loop-less Inv-loop μ-loop
+loop-less c = omega arith
+
+loop-again : tie.Need-loop-again Inv-loop μ-loop
+loop-again c =
+    (omega arith, simp length-set (omega arith), stored (λ k. word64 (c .before .before .before .before .args .file .now) (96 + 8 * k)) (c .before .before .loop .d) (c .before .before .loop .i) (omega arith) (c .before .before .loop .inv .2) (c .word64 .ensures))
+
+returns : tie.Need-returns Inv-loop μ-loop
+returns c =
+    let e : c .before .loop .i ≡ 32 = omega arith in
+    words64-is (c .before .before .before .args .file .now) 96 32 (c .before .loop .d) (c .before .loop .inv .1) (λ k h. c .before .loop .inv .2 k (omega arith))
+
+pub doubles-spec : {M : Type 1} → statement M
+doubles-spec =
+    tie.close
+    (tie.spec
+    Inv-loop
+    μ-loop
+    loop-holds
+    mul-word64
+    add-word64
+    word64-requires
+    mul-d
+    array-write-d
+    add-i
+    loop-less
+    loop-again
+    returns)

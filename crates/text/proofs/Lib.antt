@@ -1,0 +1,3 @@
+pub mod Opened
+pub mod Overlaid
+pub mod Numbers
