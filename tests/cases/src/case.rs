@@ -1,0 +1,45 @@
+//! A generated report, and what is known of its answer without asking an unwinder.
+
+#[derive(Clone, Debug)]
+pub struct Case {
+    /// Which kind of report it is, for the histogram.
+    pub kind: &'static str,
+    pub report: Vec<u8>,
+    pub known: Known,
+}
+
+#[derive(Clone, Debug)]
+pub enum Known {
+    Nothing,
+    /// The first frame is refused with this number.
+    FirstRefused(u32),
+    /// The first frame has no covering record and unwinds as a leaf.
+    FirstLeaf,
+    /// The first frame unwinds and the second is refused with this number.
+    SecondRefused(u32),
+    /// The walk stops after this many frames, with "end" or "full".
+    Stops {
+        frames: usize,
+        full: bool,
+    },
+    Chain(Box<Chain>),
+}
+
+/// What a processor did on its way to the reported pc.
+#[derive(Clone, Debug)]
+pub struct Chain {
+    /// pc and SP of each frame, the innermost first.
+    pub frames: Vec<(u32, u32)>,
+    pub sp: u32,
+    pub pc: u32,
+    /// r4-r11.
+    pub r: [u32; 8],
+    /// d8-d15.
+    pub d: [u64; 8],
+}
+
+impl Case {
+    pub fn open(kind: &'static str, report: Vec<u8>) -> Case {
+        Case { kind, report, known: Known::Nothing }
+    }
+}

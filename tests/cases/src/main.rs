@@ -1,0 +1,225 @@
+//! Reports to compare unwinders with: made, counted, taken apart and compared. `tests/run` calls this.
+
+mod aims;
+mod answers;
+mod case;
+mod chain;
+mod damage;
+mod draft;
+mod edges;
+mod examples;
+mod families;
+mod framing;
+mod full;
+mod functions;
+mod histogram;
+mod known;
+mod module;
+mod mutants;
+mod options;
+mod packed;
+mod processor;
+mod records;
+mod rng;
+mod scene;
+mod steps;
+mod streams;
+mod truth;
+mod unfit;
+mod victims;
+
+use std::fs;
+use std::io::{self, BufWriter, Write};
+use std::path::Path;
+use std::process::ExitCode;
+
+use peer::report::Report;
+
+use crate::examples::Vectors;
+use crate::histogram::{least, Histogram};
+use crate::known::{confirm, Answers};
+use crate::options::Options;
+
+const USAGE: &str = "\
+usage: cases generate --seed S --cases N        reports, each preceded by its length
+       cases one --seed S --number K            one report of those
+       cases histogram --seed S --cases N       what they meet, and whether known answers are given
+       cases examples DIR                       reports with their answers, also odd inputs
+       cases truth JSONL WALKS CALLERS          real reports: the answers against the truth
+       cases pick FILE --number K               one report of a file of reports
+       cases frame REPORT                       a report preceded by its length
+       cases compare WHAT EXPECTED ANSWERED [AGAIN]
+                                                the answers that differ; AGAIN and the report's number
+                                                is the command to see one again
+       cases count EXPECTED ANSWERED            how many answers differ
+       cases mutants FILE                       the names of the planted mistakes
+       cases plant FILE NAME DIR                plants one in the sources in DIR";
+
+/// Differences shown in full.
+const SHOWN: usize = 3;
+
+fn main() -> ExitCode {
+    match run() {
+        Ok(true) => ExitCode::SUCCESS,
+        Ok(false) => ExitCode::FAILURE,
+        Err(message) => {
+            eprintln!("cases: {message}");
+            ExitCode::from(2)
+        }
+    }
+}
+
+/// Whether all is well with what was asked.
+fn run() -> Result<bool, String> {
+    let options = Options::read(std::env::args().skip(1))?;
+    let words: Vec<&str> = options.words.iter().map(String::as_str).collect();
+    match words.as_slice() {
+        ["generate"] => generate(&options),
+        ["one"] => print_bytes(&families::case(options.seed, options.number).report),
+        ["histogram"] => count_classes(&options),
+        ["examples", folder] => write_examples(Path::new(folder)),
+        ["truth", truth, walks, callers] => check_truth(truth, walks, callers),
+        ["pick", file] => pick(file, options.number),
+        ["frame", file] => print_framed(&bytes_of(file)?),
+        ["compare", what, expected, answered] => compare(what, expected, answered, None),
+        ["compare", what, expected, answered, again] => {
+            compare(what, expected, answered, Some(again))
+        }
+        ["count", expected, answered] => count_differences(expected, answered),
+        ["mutants", file] => list_mutants(file),
+        ["plant", file, name, folder] => plant(file, name, Path::new(folder)),
+        _ => Err(USAGE.to_string()),
+    }
+}
+
+fn text_of(path: impl AsRef<Path>) -> Result<String, String> {
+    let path = path.as_ref();
+    fs::read_to_string(path).map_err(|error| format!("{}: {error}", path.display()))
+}
+
+fn bytes_of(file: &str) -> Result<Vec<u8>, String> {
+    fs::read(file).map_err(|error| format!("{file}: {error}"))
+}
+
+fn write_file(path: &Path, bytes: &[u8]) -> Result<(), String> {
+    fs::write(path, bytes).map_err(|error| format!("{}: {error}", path.display()))
+}
+
+fn print_bytes(bytes: &[u8]) -> Result<bool, String> {
+    io::stdout().write_all(bytes).map_err(|error| error.to_string())?;
+    Ok(true)
+}
+
+fn print_framed(report: &[u8]) -> Result<bool, String> {
+    let mut framed = Vec::new();
+    framing::frame(&mut framed, report);
+    print_bytes(&framed)
+}
+
+fn generate(options: &Options) -> Result<bool, String> {
+    let mut out = BufWriter::new(io::stdout().lock());
+    for number in 0..options.cases {
+        let mut framed = Vec::new();
+        framing::frame(&mut framed, &families::case(options.seed, number).report);
+        out.write_all(&framed).map_err(|error| error.to_string())?;
+    }
+    out.flush().map_err(|error| error.to_string())?;
+    Ok(true)
+}
+
+fn count_classes(options: &Options) -> Result<bool, String> {
+    let mut histogram = Histogram::new();
+    let mut confirmed = 0;
+    let mut wrong = Vec::new();
+    for number in 0..options.cases {
+        let case = families::case(options.seed, number);
+        let report = Report::read(&case.report).ok();
+        let answers = report.as_ref().map(Answers::to);
+        histogram.take(&case, report.as_ref(), answers.as_ref());
+        match confirm(&case, answers.as_ref()) {
+            Some(true) => confirmed += 1,
+            Some(false) => wrong.push(format!("report {number}: known is {:?}", case.known)),
+            None => {}
+        }
+    }
+    print!("{histogram}");
+    println!("answers known beforehand: {confirmed} given, {} not", wrong.len());
+    wrong.iter().take(SHOWN).for_each(|line| println!("{line}"));
+    let rare = histogram.rare(least(options.cases));
+    rare.iter().for_each(|class| println!("met too seldom: {class}"));
+    Ok(wrong.is_empty() && rare.is_empty())
+}
+
+fn write_vectors(folder: &Path, name: &str, vectors: &Vectors) -> Result<(), String> {
+    write_file(&folder.join(format!("{name}.bin")), &vectors.reports)?;
+    write_file(&folder.join(format!("{name}.walk")), vectors.walks.as_bytes())?;
+    write_file(&folder.join(format!("{name}.caller")), vectors.callers.as_bytes())
+}
+
+fn write_examples(folder: &Path) -> Result<bool, String> {
+    write_vectors(folder, "examples", &examples::vectors())?;
+    for (number, stream) in streams::streams().iter().enumerate() {
+        write_vectors(folder, &format!("stream-{number:02}"), stream)?;
+    }
+    Ok(true)
+}
+
+fn check_truth(truth: &str, walks: &str, callers: &str) -> Result<bool, String> {
+    let (count, wrong) = truth::check(&text_of(truth)?, &text_of(walks)?, &text_of(callers)?);
+    wrong.iter().for_each(|line| println!("{line}"));
+    println!("{count} real reports, {} answers wrong", wrong.len());
+    Ok(wrong.is_empty())
+}
+
+fn pick(file: &str, number: u64) -> Result<bool, String> {
+    let bytes = bytes_of(file)?;
+    let report = framing::framed(&bytes).nth(number as usize);
+    print_bytes(report.ok_or_else(|| format!("{file} has no report {number}"))?)
+}
+
+fn compare(
+    what: &str,
+    expected: &str,
+    answered: &str,
+    again: Option<&str>,
+) -> Result<bool, String> {
+    let (expected, answered) = (text_of(expected)?, text_of(answered)?);
+    let differences = answers::differences(&expected, &answered);
+    for difference in differences.iter().take(SHOWN) {
+        println!("{what}, report {} differs:", difference.number);
+        print!("{}", difference.show());
+        if let Some(again) = again {
+            println!("    again: {again} {}", difference.number);
+        }
+    }
+    let count = answers::split(&expected).len();
+    println!("{what}: {count} answers, {} differ", differences.len());
+    // Byte for byte, whatever stands between the answers included.
+    Ok(expected == answered)
+}
+
+fn count_differences(expected: &str, answered: &str) -> Result<bool, String> {
+    let (expected, answered) = (text_of(expected)?, text_of(answered)?);
+    println!("{}", answers::differences(&expected, &answered).len());
+    Ok(true)
+}
+
+fn list_mutants(file: &str) -> Result<bool, String> {
+    for mutant in mutants::read(&text_of(file)?)? {
+        println!("{} {}", mutant.name, mutant.what);
+    }
+    Ok(true)
+}
+
+fn plant(file: &str, name: &str, folder: &Path) -> Result<bool, String> {
+    let text = text_of(file)?;
+    let mutants = mutants::read(&text)?;
+    let mutant = mutants.iter().find(|mutant| mutant.name == name);
+    let mutant = mutant.ok_or_else(|| format!("no mutant {name}"))?;
+    mutant.plant(
+        |source| text_of(folder.join(source)),
+        |source, new| write_file(&folder.join(source), new.as_bytes()),
+    )?;
+    println!("{}", mutant.what);
+    Ok(true)
+}

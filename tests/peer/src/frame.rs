@@ -1,0 +1,115 @@
+//! One frame: from the registers in a function to those of its caller.
+
+use crate::full::{Full, Xdata};
+use crate::function::{Function, Place};
+use crate::machine::{Instruction, Registers, Stack, LR, PC, SP};
+use crate::packed::Packed;
+use crate::pdata;
+use crate::refusal::Refusal;
+
+/// What a frame reads besides the registers.
+#[derive(Clone, Copy, Debug)]
+pub struct Surroundings<'a> {
+    pub image_base: u32,
+    pub pdata: &'a [u8],
+    pub xdata: Xdata<'a>,
+    pub stack: Stack<'a>,
+}
+
+#[derive(Clone, Debug)]
+pub struct Caller {
+    pub registers: Registers,
+    pub place: Place,
+    /// RVA, or 0.
+    pub handler: u32,
+    /// The undone instructions in order, one for each code run.
+    pub ran: Vec<Instruction>,
+}
+
+/// The caller of the frame that `given` stands in. The order of the checks is document 01's.
+pub fn unwind(around: &Surroundings, given: &Registers) -> Result<Caller, Refusal> {
+    check_parts(around)?;
+    let rva = offset_in_image(around, given)?;
+    pdata::check_ascending(around.pdata)?;
+    around.stack.pointer(u64::from(given.r[SP]))?;
+    let Some(entry) = pdata::find(around.pdata, rva) else {
+        return Ok(leave(given.clone(), Place::Leaf, 0, &[]));
+    };
+    let record = Record::read(entry.word, &around.xdata)?;
+    let offset = u64::from(rva - entry.start);
+    if offset >= record.length() {
+        return Ok(leave(given.clone(), Place::Leaf, 0, &[]));
+    }
+    let function = record.function()?;
+    function.check_layout()?;
+    let (place, left) = function.locate(offset)?;
+    let registers = undo_all(left, given, &around.stack)?;
+    if registers.r[SP] < given.r[SP] {
+        return Err(Refusal::Falling);
+    }
+    Ok(leave(registers, place, function.handler, left))
+}
+
+/// The caller once everything is undone: it goes on at the return address, LR itself stays.
+fn leave(mut registers: Registers, place: Place, handler: u32, ran: &[Instruction]) -> Caller {
+    registers.r[PC] = registers.r[LR] & !1;
+    Caller { registers, place, handler, ran: ran.to_vec() }
+}
+
+fn undo_all(left: &[Instruction], given: &Registers, stack: &Stack) -> Result<Registers, Refusal> {
+    let mut registers = given.clone();
+    for instruction in left {
+        instruction.undo(&mut registers, stack)?;
+    }
+    Ok(registers)
+}
+
+fn check_parts(around: &Surroundings) -> Result<(), Refusal> {
+    const TOP: u64 = 1 << 32;
+    let fit = around.pdata.len().is_multiple_of(8)
+        && around.stack.base.is_multiple_of(4)
+        && around.stack.bytes.len().is_multiple_of(4)
+        && around.stack.end() <= TOP - 4
+        && around.xdata.rva.is_multiple_of(4)
+        && around.xdata.end() <= TOP;
+    if fit {
+        Ok(())
+    } else {
+        Err(Refusal::Parts)
+    }
+}
+
+/// The pc as an RVA; its bit 0, the Thumb mark, is cleared before it is compared.
+fn offset_in_image(around: &Surroundings, given: &Registers) -> Result<u32, Refusal> {
+    let pc = given.r[PC] & !1;
+    pc.checked_sub(around.image_base).ok_or(Refusal::BelowImage)
+}
+
+enum Record<'a> {
+    Packed(Packed),
+    Full(Full<'a>),
+}
+
+impl<'a> Record<'a> {
+    fn read(word: u32, xdata: &Xdata<'a>) -> Result<Record<'a>, Refusal> {
+        if word & 3 == 0 {
+            Ok(Record::Full(Full::read(xdata, word)?))
+        } else {
+            Ok(Record::Packed(Packed::read(word)?))
+        }
+    }
+
+    fn length(&self) -> u64 {
+        match self {
+            Record::Packed(packed) => packed.length,
+            Record::Full(full) => full.length(),
+        }
+    }
+
+    fn function(&self) -> Result<Function, Refusal> {
+        match self {
+            Record::Packed(packed) => packed.function(),
+            Record::Full(full) => full.function(),
+        }
+    }
+}

@@ -1,0 +1,20 @@
+//! An unwinder for Windows on 32-bit ARM, written from document 01 and the page it cites, so that the
+//! proved programs can be compared with something that is not built like them.
+//!
+//! It has no tables: codes are told apart by mask and value, a packed record becomes instructions
+//! without passing through code bytes, and a pc finds its place by laying instructions end to end.
+//! Offsets, lengths and sizes are bytes throughout, held in 64 bits so that no sum wraps.
+
+pub mod batch;
+pub mod bits;
+pub mod codes;
+pub mod frame;
+pub mod full;
+pub mod function;
+pub mod machine;
+pub mod packed;
+pub mod pdata;
+pub mod refusal;
+pub mod report;
+pub mod text;
+pub mod walk;

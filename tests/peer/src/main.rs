@@ -1,0 +1,39 @@
+//! The four programs of the comparison, chosen by the first argument.
+
+use std::io::{self, BufReader, BufWriter, Read, Write};
+use std::process::ExitCode;
+
+use peer::batch::answer_all;
+use peer::report::LONGEST;
+use peer::text::{caller, listing};
+
+const USAGE: &str = "usage: peer walk|caller|walk_many|caller_many < REPORTS";
+
+fn main() -> ExitCode {
+    let program = std::env::args().nth(1).unwrap_or_default();
+    let result = match program.as_str() {
+        "walk" => answer_one(listing),
+        "caller" => answer_one(caller),
+        "walk_many" => answer_many(listing),
+        "caller_many" => answer_many(caller),
+        _ => Err(io::Error::new(io::ErrorKind::InvalidInput, USAGE)),
+    };
+    match result {
+        Ok(()) => ExitCode::SUCCESS,
+        Err(error) => {
+            eprintln!("peer: {error}");
+            ExitCode::FAILURE
+        }
+    }
+}
+
+/// One byte more than the longest report is enough to see that a report is too long.
+fn answer_one(answer: fn(&[u8]) -> String) -> io::Result<()> {
+    let mut report = Vec::new();
+    io::stdin().lock().take(LONGEST as u64 + 1).read_to_end(&mut report)?;
+    io::stdout().write_all(answer(&report).as_bytes())
+}
+
+fn answer_many(answer: fn(&[u8]) -> String) -> io::Result<()> {
+    answer_all(BufReader::new(io::stdin().lock()), BufWriter::new(io::stdout().lock()), answer)
+}
