@@ -3,6 +3,7 @@
 use Prim.Native.Nat.{ℕ, _≤_, _<_}
 use mathlib.Core.Path.{_≡_, subst}
 use mathlib.Core.List.{List}
+use Rattle.io.specs.Counts.{Counts}
 use Rattle.streams.specs.Filled.{Gave, Follows, Stands}
 use Rattle.streams.specs.declared.Got.{Got}
 use Rattle.streams.specs.declared.Got.the-variants.{Bytes}
@@ -17,3 +18,6 @@ stands (Report k) n buffer h = h .1
 stands TooLong n buffer h = tt
 stands (Cut b) n buffer h = tt
 stands (End b) n buffer h = tt
+
+pub report-counts : (i : Item) (k : ℕ) (buffer : List ℕ) → i ≡ Report k → Stands i buffer → Counts k buffer
+report-counts i k buffer e h = subst (λ (x : Item). Stands x buffer) e h
