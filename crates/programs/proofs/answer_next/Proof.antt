@@ -1,6 +1,5 @@
 -- A report that came whole stands at the buffer's start.
 -- Assumes nothing.
-use native.Mathlib.Omega.{arith}
 use Rattle.streams.proofs.Moved.{report-counts}
 use borrow.Author.Needs.{needs}
 use Rattle.programs.proofs.answer_next.Statement.{statement}
