@@ -23,6 +23,7 @@ mod records;
 mod rng;
 mod scene;
 mod steps;
+mod stored;
 mod streams;
 mod truth;
 mod unfit;
@@ -46,6 +47,7 @@ usage: cases generate --seed S --cases N        reports, each preceded by its le
        cases histogram --seed S --cases N       what they meet, and whether known answers are given
        cases examples DIR                       reports with their answers, also odd inputs
        cases truth JSONL WALKS CALLERS          real reports: the answers against the truth
+       cases stored REAL CRATES --seed S        the inputs stored with the programs
        cases pick FILE --number K               one report of a file of reports
        cases frame REPORT                       a report preceded by its length
        cases compare WHAT EXPECTED ANSWERED [AGAIN]
@@ -79,6 +81,7 @@ fn run() -> Result<bool, String> {
         ["histogram"] => count_classes(&options),
         ["examples", folder] => write_examples(Path::new(folder)),
         ["truth", truth, walks, callers] => check_truth(truth, walks, callers),
+        ["stored", real, crates] => write_stored(&options, real, Path::new(crates)),
         ["pick", file] => pick(file, options.number),
         ["frame", file] => print_framed(&bytes_of(file)?),
         ["compare", what, expected, answered] => compare(what, expected, answered, None),
@@ -161,6 +164,15 @@ fn write_examples(folder: &Path) -> Result<bool, String> {
     for (number, stream) in streams::streams().iter().enumerate() {
         write_vectors(folder, &format!("stream-{number:02}"), stream)?;
     }
+    Ok(true)
+}
+
+fn write_stored(options: &Options, real: &str, crates: &Path) -> Result<bool, String> {
+    let stream = stored::stream(options.seed, options.cases, &bytes_of(real)?)?;
+    write_file(&crates.join("walk/stdin"), &examples::listing_draft().bytes())?;
+    write_file(&crates.join("caller/stdin"), &stored::offset_four().bytes())?;
+    write_file(&crates.join("walk_many/stdin"), &stream)?;
+    write_file(&crates.join("caller_many/stdin"), &stream)?;
     Ok(true)
 }
 
