@@ -21,9 +21,11 @@ mod packed;
 mod processor;
 mod records;
 mod rng;
+mod samples;
 mod scene;
 mod steps;
 mod streams;
+mod thread;
 mod truth;
 mod unfit;
 mod victims;
@@ -34,6 +36,7 @@ use std::path::Path;
 use std::process::ExitCode;
 
 use peer::report::Report;
+use peer::text;
 
 use crate::examples::Vectors;
 use crate::histogram::{least, Histogram};
@@ -45,6 +48,8 @@ usage: cases generate --seed S --cases N        reports, each preceded by its le
        cases one --seed S --number K            one report of those
        cases histogram --seed S --cases N       what they meet, and whether known answers are given
        cases examples DIR                       reports with their answers, also odd inputs
+       cases samples DIR                        the reports of samples/ with the peer's answers, which
+                                                must be those known beforehand
        cases truth JSONL WALKS CALLERS          real reports: the answers against the truth
        cases pick FILE --number K               one report of a file of reports
        cases frame REPORT                       a report preceded by its length
@@ -78,6 +83,7 @@ fn run() -> Result<bool, String> {
         ["one"] => print_bytes(&families::case(options.seed, options.number).report),
         ["histogram"] => count_classes(&options),
         ["examples", folder] => write_examples(Path::new(folder)),
+        ["samples", folder] => write_samples(Path::new(folder)),
         ["truth", truth, walks, callers] => check_truth(truth, walks, callers),
         ["pick", file] => pick(file, options.number),
         ["frame", file] => print_framed(&bytes_of(file)?),
@@ -162,6 +168,27 @@ fn write_examples(folder: &Path) -> Result<bool, String> {
         write_vectors(folder, &format!("stream-{number:02}"), stream)?;
     }
     Ok(true)
+}
+
+fn write_samples(folder: &Path) -> Result<bool, String> {
+    for sample in samples::samples() {
+        let file = |kind: &str| folder.join(format!("{}.{kind}", sample.name));
+        write_file(&file("report"), &sample.report)?;
+        let listing = text::listing(&sample.report);
+        write_known(&file("listing"), &listing, &sample.listing)?;
+        if let Some(known) = &sample.caller {
+            write_known(&file("caller"), &text::caller(&sample.report), known)?;
+        }
+    }
+    Ok(true)
+}
+
+/// An answer of the peer, if it is the one that is known.
+fn write_known(path: &Path, answer: &str, known: &str) -> Result<(), String> {
+    if answer != known {
+        return Err(format!("{}: known is\n{known}and the peer says\n{answer}", path.display()));
+    }
+    write_file(path, answer.as_bytes())
 }
 
 fn check_truth(truth: &str, walks: &str, callers: &str) -> Result<bool, String> {
