@@ -21,10 +21,12 @@ mod packed;
 mod processor;
 mod records;
 mod rng;
+mod samples;
 mod scene;
 mod steps;
 mod stored;
 mod streams;
+mod thread;
 mod truth;
 mod unfit;
 mod victims;
@@ -35,6 +37,7 @@ use std::path::Path;
 use std::process::ExitCode;
 
 use peer::report::Report;
+use peer::text;
 
 use crate::examples::Vectors;
 use crate::histogram::{least, Histogram};
@@ -55,7 +58,9 @@ usage: cases generate --seed S --cases N        reports, each preceded by its le
                                                 is the command to see one again
        cases count EXPECTED ANSWERED            how many answers differ
        cases mutants FILE                       the names of the planted mistakes
-       cases plant FILE NAME DIR                plants one in the sources in DIR";
+       cases plant FILE NAME DIR                plants one in the sources in DIR
+       cases samples DIR                        the reports of samples/ with the peer's answers, which
+                                                must be those known beforehand";
 
 /// Differences shown in full.
 const SHOWN: usize = 3;
@@ -91,6 +96,7 @@ fn run() -> Result<bool, String> {
         ["count", expected, answered] => count_differences(expected, answered),
         ["mutants", file] => list_mutants(file),
         ["plant", file, name, folder] => plant(file, name, Path::new(folder)),
+        ["samples", folder] => write_samples(Path::new(folder)),
         _ => Err(USAGE.to_string()),
     }
 }
@@ -234,4 +240,25 @@ fn plant(file: &str, name: &str, folder: &Path) -> Result<bool, String> {
     )?;
     println!("{}", mutant.what);
     Ok(true)
+}
+
+fn write_samples(folder: &Path) -> Result<bool, String> {
+    for sample in samples::samples() {
+        let file = |kind: &str| folder.join(format!("{}.{kind}", sample.name));
+        write_file(&file("report"), &sample.report)?;
+        let listing = text::listing(&sample.report);
+        write_known(&file("listing"), &listing, &sample.listing)?;
+        if let Some(known) = &sample.caller {
+            write_known(&file("caller"), &text::caller(&sample.report), known)?;
+        }
+    }
+    Ok(true)
+}
+
+/// An answer of the peer, if it is the one that is known.
+fn write_known(path: &Path, answer: &str, known: &str) -> Result<(), String> {
+    if answer != known {
+        return Err(format!("{}: known is\n{known}and the peer says\n{answer}", path.display()));
+    }
+    write_file(path, answer.as_bytes())
 }
