@@ -20,7 +20,7 @@ module _ {A : Type 0} where
   all x zero = []
   all x (suc n) = x ∷ all x n
 
-  tab-from : (d : A) (g : ℕ → A) (i n k : ℕ) → k < n → getD (tab g i n) k d ≡ g (i + k)
+  pub tab-from : (d : A) (g : ℕ → A) (i n k : ℕ) → k < n → getD (tab g i n) k d ≡ g (i + k)
   tab-from d g i zero k h = absurd (not-suc-le-zero h)
   tab-from d g i (suc n) zero h = ap g (sym (add-zero i))
   tab-from d g i (suc n) (suc k) h = tab-from d g (suc i) n k (le-of-suc-le-suc h) ∙ ap g (suc-add i k ∙ sym (add-suc i k))

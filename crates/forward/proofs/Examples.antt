@@ -11,6 +11,7 @@ use lib.ListN.{replicate}
 use native.Mathlib.Omega.{arith}
 use Rattle.words.specs.Bits.{bits, even}
 use Rattle.words.specs.Lent.{lent}
+use Rattle.words.proofs.Bytes.{bytesOf}
 use Rattle.words.specs.Units.{halfwords, stackWords}
 use Rattle.words.specs.declared.Place.the-variants.{Prologue, Body, Epilogue}
 use Rattle.unwinding.specs.Answer.{Res, ok, orElse}
@@ -45,10 +46,6 @@ use Rattle.forward.proofs.Executing.{after, runs, after-solid}
 use Rattle.forward.proofs.Reaching.{At, Roomy, reach, reach-prologue, reach-idle, reach-moved, reach-epilogue}
 
 -- ---- tables with one record, of a function at 0x1000
-abbrev pub bytesOf : List ℕ → List ℕ
-bytesOf [] = []
-bytesOf (w ∷ ws) = bits 0 8 w ∷ bits 8 8 w ∷ bits 16 8 w ∷ bits 24 8 w ∷ bytesOf ws
-
 -- word 1 of the .pdata record, and the words of the .xdata at 0x3000
 pub record Tables : Type 0 where
   pub word : ℕ

@@ -15,6 +15,7 @@ use Rattle.codes.specs.declared.Scanned.the-variants.{Ends, Refused}
 use Rattle.codes.specs.Code.{size, scan, codesAt}
 use Rattle.codes.specs.Reading.{scanned}
 use Rattle.codes.proofs.Sizes.{Measured, scanned-ends, scanned-refused, codes-end, codes-refused}
+use Rattle.tables.proofs.Shapes.{scopes-next}
 use Rattle.tables.specs.Plan.{scopeIn, scopesFrom}
 use Rattle.tables.specs.declared.Scopes.{Scopes}
 use Rattle.words.specs.Units.{codeBytes}
@@ -61,15 +62,6 @@ module _ (s : List ℕ) (span o : ℕ) (seen : Seen) (e : Scope) (es : List Scop
 pub look-none : (s : List ℕ) (span o : ℕ) (seen : Seen) → lookFrom s span o seen [] ≡ All seen
 unfolding lookFrom
 look-none s span o seen = refl
-
--- the scopes from the k-th on
-pub scopes-next : (c : Scopes) (x : List ℕ) (k n : ℕ) → k < n → scopesFrom c x k (n - k) ≡ scopeIn c x k ∷ scopesFrom c x (k + 1) (n - (k + 1))
-unfolding scopesFrom
-scopes-next c x k n h = let e : n - k ≡ suc (n - (k + 1)) = omega arith in ap (scopesFrom c x k) e
-
-pub scopes-none : (c : Scopes) (x : List ℕ) (k : ℕ) → scopesFrom c x k 0 ≡ []
-unfolding scopesFrom
-scopes-none c x k = refl
 
 -- a turn of the pass over the scopes
 module _ (s x : List ℕ) (c : Scopes) (span o : ℕ) (seen : Seen) (k n : ℕ) (h : k < n) (e : Scope) (here : e ≡ scopeIn c x k) where

@@ -7,26 +7,17 @@ use mathlib.Core.Bool.{Bool, true, false}
 use lib.ListN.{getD}
 use lib.Pow.{pow-mono, pow-pos}
 use lib.Dec.{eqb}
-use native.Mathlib.Nat.{add-zero, zero-add, add-suc, suc-add, le-of-suc-le-suc, not-suc-le-zero}
+use native.Mathlib.Nat.{zero-add}
 use native.Mathlib.Omega.{arith}
 use Rattle.unwinding.specs.Answer.{if_then_else_}
 use Rattle.codes.specs.Table.{range}
+use Rattle.codes.proofs.Entries.{tab, tab-from}
 use Rattle.tables.specs.Packed.{Fit}
 use Rattle.tables.specs.PackedCodes.{integers}
 use Rattle.tables.specs.declared.Packed.{Packed}
 
--- g at i and the n - 1 numbers after it
-abbrev tab : (ℕ → ℕ) → ℕ → ℕ → List ℕ
-tab g i zero = []
-tab g i (suc n) = g i ∷ tab g (suc i) n
-
-from : (g : ℕ → ℕ) (i n k : ℕ) → k < n → getD (tab g i n) k 0 ≡ g (i + k)
-from g i zero k h = absurd (not-suc-le-zero h)
-from g i (suc n) zero h = ap g (sym (add-zero i))
-from g i (suc n) (suc k) h = from g (suc i) n k (le-of-suc-le-suc h) ∙ ap g (suc-add i k ∙ sym (add-suc i k))
-
 tab-at : (g : ℕ → ℕ) (n k : ℕ) → k < n → getD (tab g 0 n) k 0 ≡ g k
-tab-at g n k h = from g 0 n k h ∙ ap g (zero-add k)
+tab-at g n k h = tab-from 0 g 0 n k h ∙ ap g (zero-add k)
 
 pub from-r4 : (x : ℕ) → 4 ≤ x → x < 12 → getD (tab (λ k. range 4 (4 + k)) 0 8) (x - 4) 0 ≡ range 4 x
 from-r4 x h k =

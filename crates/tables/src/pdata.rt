@@ -65,7 +65,7 @@ pub fn ascending(pdata: &[u8]) -> bool
 }
 
 // The last record that starts at or below an RVA, by halving, in a table that ascends.
-pub fn search(pdata: &[u8], rva: u32) -> Found
+fn search(pdata: &[u8], rva: u32) -> Found
     ensures { λ r. ⌜ (ascendingOf (starts (now (pdata .entry))) ≡ true → r ≡ found (ok (lastUpTo (entries (now (pdata .entry))) rva))) ⌝ }
 {
     let mut low = 0;

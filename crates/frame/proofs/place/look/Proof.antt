@@ -7,7 +7,8 @@ use mathlib.Core.List.{[]}
 use borrow.Author.Needs.{needs}
 use Rattle.tables.specs.Plan.{scopesFrom}
 use Rattle.frame.specs.Look.{lookFrom}
-use Rattle.frame.proofs.Looking.{turn-made, turn-bad, scopes-none, look-none}
+use Rattle.tables.proofs.Shapes.{scopes-done}
+use Rattle.frame.proofs.Looking.{turn-made, turn-bad, look-none}
 use Rattle.frame.proofs.place.look.Statement.{statement}
 use Rattle.frame.proofs.place.look.Tie as tie
 use Rattle.frame.proofs.place.count_of.Reads as count-of-reads
@@ -95,8 +96,7 @@ returns-2 c =
     let q = a .plan .scopes in
     let n = h .count-of .result in
     let span = f .span-of .result in
-    let z : n - l .loop .k ≡ 0 = omega arith in
-    let e : scopesFrom q x (l .loop .k) (n - l .loop .k) ≡ [] = ap (scopesFrom q x (l .loop .k)) z ∙ scopes-none q x (l .loop .k) in
+    let e : scopesFrom q x (l .loop .k) (n - l .loop .k) ≡ [] = scopes-done q x (l .loop .k) n (omega arith) in
     sym (ap (lookFrom (a .codes .now) span (a .o) (l .loop .s)) e ∙ look-none (a .codes .now) span (a .o) (l .loop .s)) ∙ l .loop .inv .1
     ∙ ap (λ z. lookFrom (a .codes .now) z (a .o) (a .seen) (scopesFrom q x 0 n)) (f .span-of .ensures .0)
     ∙ ap (λ z. lookFrom (a .codes .now) (a .plan .span) (a .o) (a .seen) (scopesFrom q x 0 z)) (h .count-of .ensures .0)
