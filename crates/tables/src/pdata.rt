@@ -55,10 +55,13 @@ pub fn ascending(pdata: &[u8]) -> bool
 {
     let n = records(pdata);
     let mut i = 0;
+    let mut last = start_at(pdata, 0);
     while i + 1 < n {
-        if start_at(pdata, i + 1) <= start_at(pdata, i) {
+        let next = start_at(pdata, i + 1);
+        if next <= last {
             return false;
         }
+        last = next;
         i += 1;
     }
     true

@@ -1,7 +1,7 @@
 // The vocabulary of document 01 that every other crate speaks: the three units, the refusals, the places; little-endian words of lent
 // bytes. It knows bytes, words and numbers, and neither records nor registers. No function asks anything of its caller.
 ghost use mathlib.Core.Path.{_≡_};
-ghost use Prim.Native.Nat.{_+_, _<_};
+ghost use Prim.Native.Nat.{_+_, _<_, _≤_};
 ghost use lib.ListN.{length, getD};
 ghost use Rattle.words.specs.Bits.{even as evenOf};
 ghost use Rattle.words.specs.Little.{word16 as word16Of, word32 as word32Of, word64 as word64Of};
@@ -74,6 +74,14 @@ fn wide(b: u8) -> u32
     b as u32
 }
 
+// A byte of the slice, as a word.
+fn byte_in(s: &[u8], i: usize) -> u32
+    requires { ⌜ i < length (now s) ⌝ }
+    ensures { λ r. ⌜ (r ≡ getD (now (s .entry)) i 0) × (r < 256) ⌝ }
+{
+    wide(s[i])
+}
+
 // The byte k places after a place of the slice; 0 where there is none.
 fn byte_after(s: &[u8], at: usize, k: usize) -> u32
     ensures { λ r. ⌜ (r ≡ getD (now (s .entry)) (at + k) 0) × (r < 256) ⌝ }
@@ -84,11 +92,22 @@ fn byte_after(s: &[u8], at: usize, k: usize) -> u32
     if s.len() - at <= k {
         return 0;
     }
-    wide(s[at + k])
+    byte_in(s, at + k)
 }
 
-// The word k places, a few, after a place of the slice.
-fn word32_after(s: &[u8], at: usize, k: usize) -> u32
+// The word at a place whose four bytes are in the slice.
+fn word32_in(s: &[u8], i: usize) -> u32
+    requires { ⌜ i + 4 ≤ length (now s) ⌝ }
+    ensures { λ r. ⌜ r ≡ word32Of (now (s .entry)) i ⌝ }
+{
+    byte_in(s, i)
+        + 256 * byte_in(s, i + 1)
+        + 65536 * byte_in(s, i + 2)
+        + 16777216 * byte_in(s, i + 3)
+}
+
+// The word k places, a few, after a place of the slice, its bytes one by one: those past the end are 0.
+fn word32_bytewise(s: &[u8], at: usize, k: usize) -> u32
     requires { ⌜ k < 8 ⌝ }
     ensures { λ r. ⌜ r ≡ word32Of (now (s .entry)) (at + k) ⌝ }
 {
@@ -96,6 +115,19 @@ fn word32_after(s: &[u8], at: usize, k: usize) -> u32
         + 256 * byte_after(s, at, k + 1)
         + 65536 * byte_after(s, at, k + 2)
         + 16777216 * byte_after(s, at, k + 3)
+}
+
+// The same, by one test where the four bytes are there.
+fn word32_after(s: &[u8], at: usize, k: usize) -> u32
+    requires { ⌜ k < 8 ⌝ }
+    ensures { λ r. ⌜ r ≡ word32Of (now (s .entry)) (at + k) ⌝ }
+{
+    if at < s.len() {
+        if k + 4 <= s.len() - at {
+            return word32_in(s, at + k);
+        }
+    }
+    word32_bytewise(s, at, k)
 }
 
 // The little-endian words at an offset. Whoever takes one for a word of the input has tested that its bytes are there.

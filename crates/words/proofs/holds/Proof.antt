@@ -1,3 +1,5 @@
+-- `holds` meets its contract.
+-- Assumes nothing.
 use native.Mathlib.Omega.{arith}
 use Prim.Native.Nat.{_+_, _-_, _≤_}
 use mathlib.Core.Path.{sym, _∙_}
@@ -10,19 +12,15 @@ use Rattle.words.proofs.holds.Tie as tie
 use Rattle.words.proofs.holds.Reads as reads
 use Rattle.words.proofs.holds.Lts as lts
 
--- src/lib.rt:127:9
 returns : tie.Need-returns
 returns c = let a = c .before .args in holds-below (a .base) (a .s .now) (a .at) (a .n) (c .if1 .taken)
 
--- src/lib.rt:130:9
 returns-2 : tie.Need-returns-2
 returns-2 c = let a = c .before .before .args in let b : a .base ≤ a .at = c .before .if1 .left in sym (lt-leb (a .at + a .n) (a .base + length (a .s .now)) (omega arith)) ∙ holds-above (a .base) (a .s .now) (a .at) (a .n) b
 
--- src/lib.rt:132:10
 sub-result : tie.Need-sub-result
 sub-result c = search needs
 
--- src/lib.rt:121:1
 returns-3 : tie.Need-returns-3
 returns-3 c = let a = c .before .before .args in let b : a .base ≤ a .at = c .before .if1 .left in leb-same (a .n) (length (a .s .now) - (a .at - a .base)) (a .at + a .n) (a .base + length (a .s .now)) (λ h. omega arith) (λ h. omega arith) ∙ holds-above (a .base) (a .s .now) (a .at) (a .n) b
 

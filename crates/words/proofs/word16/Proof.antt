@@ -1,3 +1,5 @@
+-- `word16` meets its contract.
+-- Assumes nothing.
 use native.Mathlib.Omega.{arith}
 use Prim.Native.Nat.{_+_}
 use mathlib.Core.Path.{_≡_}
@@ -9,23 +11,18 @@ use Rattle.words.proofs.word16.Reads as reads
 use Rattle.words.proofs.word16.Lts as lts
 use Rattle.words.proofs.byte_after.Reads as byte-after-reads
 
--- src/lib.rt:105:5
 byte-after-requires : tie.Need-byte-after-requires
 byte-after-requires c κs = search needs
 
--- src/lib.rt:105:34
 byte-after-requires-2 : tie.Need-byte-after-requires-2
 byte-after-requires-2 c κs = search needs
 
--- src/lib.rt:105:28
 mul-result : tie.Need-mul-result
 mul-result c = search needs
 
--- src/lib.rt:105:5
 add-result : tie.Need-add-result
 add-result c = search needs
 
--- src/lib.rt:102:1
 returns : tie.Need-returns
 returns c = let a = c .before .before .before .args in let z : a .at + 0 ≡ a .at = omega arith in omega (arith, byte-same (a .s .now) z, c .before .byte-after .ensures, c .byte-after2 .ensures)
 

@@ -1,3 +1,5 @@
+-- `word32` meets its contract.
+-- Assumes nothing.
 use native.Mathlib.Omega.{arith}
 use Prim.Native.Nat.{_+_}
 use mathlib.Core.Path.{_≡_, ap, _∙_}
@@ -9,11 +11,9 @@ use Rattle.words.proofs.word32.Reads as reads
 use Rattle.words.proofs.word32.Lts as lts
 use Rattle.words.proofs.word32_after.Reads as word32-after-reads
 
--- src/lib.rt:111:5
 word32-after-requires : tie.Need-word32-after-requires
 word32-after-requires c κs = search needs
 
--- src/lib.rt:108:1
 returns : tie.Need-returns
 returns c = let a = c .before .before .args in let z : a .at + 0 ≡ a .at = omega arith in c .word32-after .ensures ∙ ap (word32 (a .s .now)) z
 

@@ -1,3 +1,5 @@
+-- `word64` meets its contract.
+-- Assumes nothing.
 use native.Mathlib.Omega.{arith}
 use Prim.Native.Nat.{_+_}
 use mathlib.Core.Path.{_≡_, ap, _∙_}
@@ -9,31 +11,24 @@ use Rattle.words.proofs.word64.Reads as reads
 use Rattle.words.proofs.word64.Lts as lts
 use Rattle.words.proofs.word32_after.Reads as word32-after-reads
 
--- src/lib.rt:117:6
 word32-after-requires : tie.Need-word32-after-requires
 word32-after-requires c κs = search needs
 
--- src/lib.rt:117:6
 cast-result : tie.Need-cast-result
 cast-result c = search needs
 
--- src/lib.rt:117:53
 word32-after-requires-2 : tie.Need-word32-after-requires-2
 word32-after-requires-2 c κs = search needs
 
--- src/lib.rt:117:53
 cast-result-2 : tie.Need-cast-result-2
 cast-result-2 c = search needs
 
--- src/lib.rt:117:39
 mul-result : tie.Need-mul-result
 mul-result c = search needs
 
--- src/lib.rt:117:5
 add-result : tie.Need-add-result
 add-result c = search needs
 
--- src/lib.rt:114:1
 returns : tie.Need-returns
 returns c = let a = c .before .before .before .args in let z : a .at + 0 ≡ a .at = omega arith in let e : word32 (a .s .now) (a .at + 0) ≡ word32 (a .s .now) (a .at) = ap (word32 (a .s .now)) z in omega (arith, e, c .before .word32-after .ensures, c .word32-after2 .ensures)
 

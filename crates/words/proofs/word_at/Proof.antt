@@ -1,3 +1,5 @@
+-- `word_at` meets its contract.
+-- Assumes nothing.
 use native.Mathlib.Omega.{arith}
 use Prim.Native.Nat.{_-_}
 use mathlib.Core.Path.{_≡_, ap, _∙_}
@@ -9,19 +11,15 @@ use Rattle.words.proofs.word_at.Reads as reads
 use Rattle.words.proofs.word_at.Lts as lts
 use Rattle.words.proofs.word32.Reads as word32-reads
 
--- src/lib.rt:141:9
 word32-requires : tie.Need-word32-requires
 word32-requires c κs = search needs
 
--- src/lib.rt:141:9
 returns : tie.Need-returns
 returns c = let a = c .before .before .before .args in let z : 0 ≡ a .at - a .base = omega arith in c .word32 .ensures ∙ ap (word32 (a .s .now)) z
 
--- src/lib.rt:143:5
 word32-requires-2 : tie.Need-word32-requires-2
 word32-requires-2 c κs = search needs
 
--- src/lib.rt:136:1
 returns-2 : tie.Need-returns-2
 returns-2 c = search needs
 
