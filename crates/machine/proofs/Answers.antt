@@ -4,15 +4,14 @@ use Prim.Native.Nat.{ℕ}
 use mathlib.Core.Path.{_≡_, refl, sym, ap, _∙_}
 use native.Mathlib.Omega.{arith}
 use Rattle.words.specs.declared.Refusal.{Refusal}
+use Rattle.words.specs.declared.Verdict.{Verdict}
 use Rattle.words.specs.declared.Verdict.the-variants.{Given, Refused}
-use Rattle.unwinding.specs.Answer.{Res, ok, refuse}
-use Rattle.machine.specs.Registers.{setSp}
+use Rattle.unwinding.specs.Answer.{Res, ok, refuse, _>>=_}
 use Rattle.machine.specs.Run.{ran}
-use Rattle.machine.specs.Answers.{loaded, undone, stepped}
+use Rattle.machine.specs.Answers.{loaded, loadedTwo, came, Counted, stepped}
 use Rattle.machine.specs.declared.Loaded.the-variants as Loads
+use Rattle.machine.specs.declared.LoadedTwo.the-variants as Two
 use Rattle.machine.specs.declared.Regs.{Regs}
-use Rattle.machine.specs.declared.Undone.{Undone}
-use Rattle.machine.specs.declared.Stepped.{Stepped}
 use Rattle.machine.specs.declared.Ran.{Ran}
 
 -- a word was loaded, or was not
@@ -24,41 +23,37 @@ pub loaded-refused : (x : Res ℕ) (r : Refusal) → loaded x ≡ Loads.Refused 
 loaded-refused (ok v) r e = absurd (let z : _≡_ {A = ℕ} 0 1 = cc in omega arith)
 loaded-refused (refuse q) r e = cc
 
+pub two-words : (x y : Res ℕ) (l h : ℕ) → loadedTwo x y ≡ Two.Words l h → (x ≡ ok l) × (y ≡ ok h)
+two-words (ok a) (ok b) l h e = (cc, cc)
+two-words (ok a) (refuse r) l h e = absurd (let z : _≡_ {A = ℕ} 0 1 = cc in omega arith)
+two-words (refuse r) y l h e = absurd (let z : _≡_ {A = ℕ} 0 1 = cc in omega arith)
+
+pub two-refused :
+    (x y : Res ℕ) (r : Refusal) → loadedTwo x y ≡ Two.Refused r → {A : Type 0} (f : ℕ → ℕ → Res A) → (x >>= λ l. y >>= λ h. f l h) ≡ refuse r
+two-refused (ok a) (ok b) r e f = absurd (let z : _≡_ {A = ℕ} 0 1 = cc in omega arith)
+two-refused (ok a) (refuse q) r e f = cc
+two-refused (refuse q) y r e f = cc
+
 -- given is not refused
-clash : {A : Type 0} {r : Refusal} → Refused r ≡ Given → A
+pub clash : {A : Type 0} {r : Refusal} → Refused r ≡ Given → A
 clash e = absurd (let z : _≡_ {A = ℕ} 0 1 = cc in omega arith)
 
--- something was undone, and its registers keep the given SP; or nothing was
-pub undone-given :
-    (g : Regs) (x : Res Regs) (u : Undone) → u ≡ undone g x → u .verdict ≡ Given → x ≡ ok (setSp (u .regs) (u .sp))
-undone-given g (ok h) u e v = rw e refl
-undone-given g (refuse r) u e v = clash (rw e at v)
+-- undoing in place came to an answer, or did not
+pub came-given : (v : Verdict) (h : Regs) (x : Res Regs) → came v h ≡ x → v ≡ Given → x ≡ ok h
+came-given v h x e g = sym e ∙ ap (λ w. came w h) g
 
-pub undone-sp : (g : Regs) (x : Res Regs) (u : Undone) → u ≡ undone g x → u .regs .sp ≡ g .sp
-undone-sp g (ok h) u e = rw e refl
-undone-sp g (refuse r) u e = rw e refl
+pub came-refused : (v : Verdict) (h : Regs) (x : Res Regs) (r : Refusal) → came v h ≡ x → v ≡ Refused r → x ≡ refuse r
+came-refused v h x r e g = sym e ∙ ap (λ w. came w h) g
 
-pub undone-refused :
-    (g : Regs) (x : Res Regs) (u : Undone) (r : Refusal) → u ≡ undone g x → u .verdict ≡ Refused r → x ≡ refuse r
-undone-refused g (ok h) u r e v = clash (sym (rw e at v))
-undone-refused g (refuse q) u r e v = let w : undone g (refuse q) .verdict ≡ Refused r = rw e at v in cc
+-- what came of it in place, given back
+pub came-stepped : (g h : Regs) (v : Verdict) (x : Res Regs) → came v h ≡ x → v ≡ Given → record { verdict = Given; regs = h } ≡ stepped g x
+came-stepped g h v x e given = sym (ap (stepped g) (came-given v h x e given))
 
--- what a loop came to that kept the given SP in the registers
-pub undone-made :
-    (g h : Regs) (sp : ℕ) (x : Res Regs) → x ≡ ok (setSp h sp) → h .sp ≡ g .sp
-    → record { verdict = Given; regs = h; sp = sp } ≡ undone g x
-undone-made g h sp x e same =
-    ap (λ s. record { verdict = Given; regs = setSp h s; sp = sp }) same ∙ sym (ap (undone g) e)
-
--- a step was made, or was not
-pub stepped-given : (g : Regs) (x : Res Regs) (u : Stepped) → u ≡ stepped g x → u .verdict ≡ Given → x ≡ ok (u .regs)
-stepped-given g (ok h) u e v = rw e refl
-stepped-given g (refuse r) u e v = clash (rw e at v)
-
-pub stepped-refused :
-    (g : Regs) (x : Res Regs) (u : Stepped) (r : Refusal) → u ≡ stepped g x → u .verdict ≡ Refused r → x ≡ refuse r
-stepped-refused g (ok h) u r e v = clash (sym (rw e at v))
-stepped-refused g (refuse q) u r e v = let w : stepped g (refuse q) .verdict ≡ Refused r = rw e at v in cc
+pub came-ran :
+    (g h : Regs) (v : Verdict) (m n : ℕ) (x : Res Regs) → came v h ≡ x → Counted v m n → v ≡ Given
+    → record { verdict = Given; regs = h; codes = m } ≡ ran g n x
+came-ran g h v m n x e few given =
+    ap (λ c. record { verdict = Given; regs = h; codes = c }) (few .all given) ∙ sym (ap (ran g n) (came-given v h x e given))
 
 -- a code list was run, or was not
 pub ran-given :

@@ -22,9 +22,7 @@ use Rattle.codes.specs.declared.Taken.the-variants.{One, Last, Bad}
 use Rattle.codes.proofs.Scanning.{scan-one, scan-last, scan-bad}
 use Rattle.machine.specs.Step.{step}
 use Rattle.machine.specs.Run.{runAt, ran}
-use Rattle.machine.specs.Answers.{oneMore}
 use Rattle.machine.specs.declared.Regs.{Regs}
-use Rattle.machine.specs.declared.Ran.{Ran}
 
 -- the codes of a scan, and then its end
 abbrev through : Lent → Regs → Scan → Res Regs
@@ -38,6 +36,12 @@ module _ (k : Lent) (s : List ℕ) (i : CodeBytes) (g : Regs) where
       ap (through k g) (scan-one s (i .0) c next e)
       ∙ ap (λ x. x >>= λ h. scan s next .ending >> ok h) (run-step (step k) c (scan s next .list) g)
       ∙ bind-assoc (step k c g) (λ t. run (step k) (scan s next .list) t) (λ h. scan s next .ending >> ok h)
+
+  pub first-given : (c : Code) (next : CodeBytes) (h : Regs) → takeAt s i ≡ One c next → step k c g ≡ ok h → runAt k s i g ≡ runAt k s next h
+  first-given c next h e f = run-first c next e ∙ ap (λ x. x >>= λ t. runAt k s next t) f
+
+  pub first-refused : (c : Code) (next : CodeBytes) (r : Refusal) → takeAt s i ≡ One c next → step k c g ≡ refuse r → runAt k s i g ≡ refuse r
+  first-refused c next r e f = run-first c next e ∙ ap (λ x. x >>= λ t. runAt k s next t) f
 
   pub run-last : (n : Halfwords) → takeAt s i ≡ Last n → runAt k s i g ≡ ok g
   unfolding runAt
@@ -70,37 +74,6 @@ from-short a (b ∷ s) zero = follow-short (takeFrom a (b ∷ s)) _ (length s) (
 
 pub codes-short : (s : List ℕ) (i : CodeBytes) → length (scan s i .list) ≤ length s
 codes-short s i = from-short 0 s (i .0)
-
--- what a run gives back: "end codes not counted", and none where it was refused
-more : (g h : Regs) (n : ℕ) (x : Res Regs) (rest : Ran) → rest ≡ ran h n x → oneMore g rest ≡ ran g (n + 1) x
-more g h n (ok t) rest e = rw e refl
-more g h n (refuse r) rest e = rw e refl
-
-pub ran-few : (g : Regs) (n : ℕ) (x : Res Regs) (whole : Ran) → whole ≡ ran g n x → whole .codes ≤ n
-ran-few g n (ok t) whole e = rw e (omega arith)
-ran-few g n (refuse r) whole e = rw e (omega arith)
-
-module _ (k : Lent) (s : List ℕ) (i : CodeBytes) (g : Regs) where
-  abbrev answer : Ran
-  answer = ran g (length (scan s i .list)) (runAt k s i g)
-
-  pub ran-first :
-      (c : Code) (next : CodeBytes) (h : Regs) (rest : Ran) → takeAt s i ≡ One c next → step k c g ≡ ok h
-      → rest ≡ ran h (length (scan s next .list)) (runAt k s next h) → oneMore g rest ≡ answer
-  ran-first c next h rest e f q =
-      more g h (length (scan s next .list)) (runAt k s next h) rest q
-      ∙ sym (ap₂ (ran g) (count-first s i c next e) (run-first k s i g c next e ∙ ap (λ x. x >>= λ t. runAt k s next t) f))
-
-  pub ran-stopped :
-      (c : Code) (next : CodeBytes) (r : Refusal) → takeAt s i ≡ One c next → step k c g ≡ refuse r → ran g 0 (refuse r) ≡ answer
-  ran-stopped c next r e f =
-      sym (ap (ran g (length (scan s i .list))) (run-first k s i g c next e ∙ ap (λ x. x >>= λ t. runAt k s next t) f))
-
-  pub ran-last : (n : Halfwords) → takeAt s i ≡ Last n → ran g 0 (ok g) ≡ answer
-  ran-last n e = sym (ap₂ (ran g) (count-last s i n e) (run-last k s i g n e))
-
-  pub ran-bad : (j : CodeBytes) → takeAt s i ≡ Bad j → ran g 0 (refuse (BadCodes j)) ≡ answer
-  ran-bad j e = sym (ap (ran g (length (scan s i .list))) (run-bad k s i g j e))
 
 -- where the code bytes hold a whole code list, running them is running the list
 bind-ok : {A : Type 0} (x : Res A) → (x >>= λ a. ok a) ≡ x

@@ -1,34 +1,40 @@
 -- What the machine's functions give for an answer or a refusal.
-use Prim.Native.Nat.{ℕ, _+_}
+use Prim.Native.Nat.{ℕ, _≤_}
+use mathlib.Core.Path.{_≡_}
+use mathlib.Core.List.{List}
 use Rattle.words.specs.declared.Verdict.{Verdict}
 use Rattle.words.specs.declared.Verdict.the-variants.{Given, Refused}
 use Rattle.unwinding.specs.Answer.{Res, ok, refuse}
-use Rattle.machine.specs.Registers.{setSp}
 use Rattle.machine.specs.declared.Regs.{Regs}
 use Rattle.machine.specs.declared.Loaded.{Loaded}
 use Rattle.machine.specs.declared.Loaded.the-variants as Loads
-use Rattle.machine.specs.declared.Undone.{Undone}
+use Rattle.machine.specs.declared.LoadedTwo.{LoadedTwo}
+use Rattle.machine.specs.declared.LoadedTwo.the-variants as Two
 use Rattle.machine.specs.declared.Stepped.{Stepped}
-use Rattle.machine.specs.declared.Ran.{Ran}
 
 abbrev pub loaded : Res ℕ → Loaded
 loaded (ok w) = Loads.Word w
 loaded (refuse r) = Loads.Refused r
 
--- SP stands beside the registers, which keep the given one; a refusal gives back the given registers and their SP
-abbrev pub undone : (g : Regs) → Res Regs → Undone
-undone g (ok h) = record { verdict = Given; regs = setSp h (g .sp); sp = h .sp }
-undone g (refuse r) = record { verdict = Refused r; regs = g; sp = g .sp }
+abbrev pub loadedTwo : (low high : Res ℕ) → LoadedTwo
+loadedTwo (ok l) (ok h) = Two.Words l h
+loadedTwo (ok l) (refuse r) = Two.Refused r
+loadedTwo (refuse r) x = Two.Refused r
+
+-- registers from their parts, and what came of undoing in place: the registers as they then stand, or a refusal
+abbrev pub regs : (r : List ℕ) (sp lr pc : ℕ) (d : List ℕ) → Regs
+regs r sp lr pc d = record { r = r; sp = sp; lr = lr; pc = pc; d = d }
+
+abbrev pub came : Verdict → Regs → Res Regs
+came Given h = ok h
+came (Refused r) h = refuse r
+
+-- the number of codes run, of n there are: all of them, unless it was refused
+pub record Counted (v : Verdict) (codes n : ℕ) : Type 0 where
+  pub most : codes ≤ n
+  pub all : v ≡ Given → codes ≡ n
 
 -- a refusal gives back the given registers
 abbrev pub stepped : (g : Regs) → Res Regs → Stepped
 stepped g (ok h) = record { verdict = Given; regs = h }
 stepped g (refuse r) = record { verdict = Refused r; regs = g }
-
--- a code run from these registers, and then what the rest came to
-abbrev pub afterOne : (g : Regs) → Verdict → (rest : Ran) → Ran
-afterOne g Given rest = record { verdict = Given; regs = rest .regs; codes = rest .codes + 1 }
-afterOne g (Refused r) rest = record { verdict = Refused r; regs = g; codes = 0 }
-
-abbrev pub oneMore : (g : Regs) → (rest : Ran) → Ran
-oneMore g rest = afterOne g (rest .verdict) rest

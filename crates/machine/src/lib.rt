@@ -8,15 +8,16 @@ use words::Refusal;
 use words::StackWords;
 use words::Verdict;
 ghost use mathlib.Core.Path.{_≡_};
-ghost use Prim.Native.Nat.{_+_, _-_, _*_, _<_, _^_};
-ghost use lib.ListN.{length};
+ghost use mathlib.Core.List.{List};
+ghost use Prim.Native.Nat.{ℕ, _+_, _-_, _*_, _<_, _^_};
+ghost use lib.Dec.{eqb};
+ghost use lib.ListN.{length, getD, set};
 ghost use Rattle.words.specs.Bits.{bit};
 ghost use Rattle.words.specs.Lent.{lent};
-ghost use Rattle.unwinding.specs.Answer.{ok, refuse, if_then_else_};
+ghost use Rattle.unwinding.specs.Answer.{if_then_else_};
 ghost use Rattle.codes.specs.Code.{scan};
-ghost use Rattle.machine.specs.Registers.{reg as regOf, setReg, setD, setSp};
-ghost use Rattle.machine.specs.Step.{stands as standsOf, load as loadOf, popReg, popD, pop as popOf, vpop as vpopOf, effect as effectOf, step as stepOf};
-ghost use Rattle.machine.specs.Answers.{loaded, undone, stepped, oneMore};
+ghost use Rattle.machine.specs.Step.{stands as standsOf, load as loadOf, pop as popOf, vpop as vpopOf, effect as effectOf, step as stepOf};
+ghost use Rattle.machine.specs.Answers.{loaded, loadedTwo, regs, came, Counted, stepped};
 ghost use Rattle.machine.specs.Run.{runAt, ran};
 
 // r0-r12, SP, LR, pc and d0-d31.
@@ -34,12 +35,34 @@ pub enum Loaded {
     Refused(Refusal),
 }
 
-// What undoing came to before SP is looked at: the registers with the SP that was given, and beside them where SP goes, which may be
-// past 2^32. A refusal gives back the given registers and their SP.
+// Two words of the stack, the lower first.
+enum LoadedTwo {
+    Words(u32, u32),
+    Refused(Refusal),
+}
+
+// Codes are undone in place: r0-r12 and d0-d31 in lists that are lent, and SP and LR by value. After a refusal none of them counts.
+
+// What undoing came to before SP is looked at, which may be past 2^32.
 struct Undone {
     verdict: Verdict,
-    regs: Regs,
     sp: u64,
+    lr: u32,
+}
+
+// What a code came to, where SP stands.
+struct Stood {
+    verdict: Verdict,
+    sp: u32,
+    lr: u32,
+}
+
+// What the codes from an index on came to, and how many were run.
+struct Ended {
+    verdict: Verdict,
+    sp: u32,
+    lr: u32,
+    codes: usize,
 }
 
 // What one code came to. A refusal gives back the given registers.
@@ -56,42 +79,38 @@ pub struct Ran {
 }
 
 // A register by number, LR as 14.
-fn reg(g: Regs, x: usize) -> u32
-    ensures { λ r. ⌜ (r ≡ regOf g x) × (r < 2 ^ 32) ⌝ }
+fn reg(r: &[u32], lr: u32, x: usize) -> u32
+    ensures { λ w. ⌜ w ≡ (if eqb x 14 then lr else getD (now (r .entry)) x 0) ⌝ }
 {
     if x == 14 {
-        return g.lr;
+        return lr;
     }
-    if x < 13 {
-        return g.r[x];
+    if x < r.len() {
+        return r[x];
     }
     0
 }
 
-// A word goes to the register of a number.
-fn set_reg(g: Regs, x: usize, w: u32) -> Regs
-    ensures { λ r. ⌜ r ≡ setReg g x w ⌝ }
+// A word goes to the register of a number, which gives LR. A number that has no register is passed over.
+fn set_reg(r: &mut [u32], lr: u32, x: usize, w: u32) -> u32
+    ensures { λ v. ⌜ (v ≡ (if eqb x 14 then w else lr)) × (now (r .exit) ≡ set (now (r .entry)) x w) ⌝ }
 {
-    let mut h = g;
+    if x < r.len() {
+        r[x] = w;
+    }
     if x == 14 {
-        h.lr = w;
-        return h;
+        return w;
     }
-    if x < 13 {
-        h.r[x] = w;
-    }
-    h
+    lr
 }
 
 // Two words, the lower first, go to a d register.
-fn set_d(g: Regs, x: usize, low: u32, high: u32) -> Regs
-    ensures { λ r. ⌜ r ≡ setD g x (low + 2 ^ 32 * high) ⌝ }
+fn set_d(d: &mut [u64], x: usize, low: u32, high: u32)
+    ensures { λ _. ⌜ now (d .exit) ≡ set (now (d .entry)) x (low + 2 ^ 32 * high) ⌝ }
 {
-    let mut h = g;
-    if x < 32 {
-        h.d[x] = (low as u64) + 4294967296 * (high as u64);
+    if x < d.len() {
+        d[x] = (low as u64) + 4294967296 * (high as u64);
     }
-    h
 }
 
 // SP may stand here: a multiple of 4 in base..end, the end allowed.
@@ -122,6 +141,19 @@ pub fn load(base: u32, stack: &[u8], at: u64) -> Loaded
     Loaded::Refused(Refusal::BadStack)
 }
 
+// The two words at an address.
+fn load_two(base: u32, stack: &[u8], at: u64) -> LoadedTwo
+    ensures { λ r. ⌜ r ≡ loadedTwo (loadOf (lent base (now (stack .entry))) at) (loadOf (lent base (now (stack .entry))) (at + 4)) ⌝ }
+{
+    match load(base, stack, at) {
+        Loaded::Word(low) => match load(base, stack, at + 4) {
+            Loaded::Word(high) => LoadedTwo::Words(low, high),
+            Loaded::Refused(why) => LoadedTwo::Refused(why),
+        },
+        Loaded::Refused(why) => LoadedTwo::Refused(why),
+    }
+}
+
 // Whether a list has the register of a number.
 fn has(list: u16, x: usize) -> bool
     requires { ⌜ x < 16 ⌝ }
@@ -130,199 +162,248 @@ fn has(list: u16, x: usize) -> bool
     (list >> x) % 2 == 1
 }
 
-// Nothing undone, by this refusal.
-fn kept(g: Regs, r: Refusal) -> Undone
-    ensures { λ u. ⌜ u ≡ undone g (refuse r) ⌝ }
+// Pops a list, the lowest register from the lowest address; 14 is its last.
+fn pop(list: u16, r: &mut [u32; 13], sp: u32, lr: u32, base: u32, stack: &[u8]) -> Undone
+    ensures { λ u. ⌜ ((pc : ℕ) (d : List ℕ) → came (u .verdict) (regs (now (r .exit)) (u .sp) (u .lr) pc d) ≡ popOf (lent base (now (stack .entry))) list 15 (regs (now (r .entry)) sp lr pc d)) ⌝ }
 {
-    Undone {
-        verdict: Verdict::Refused(r),
-        regs: g,
-        sp: g.sp as u64,
+    let mut at = sp as u64;
+    let mut back = lr;
+    for x in 0..15 {
+        if has(list, x) {
+            match load(base, stack, at) {
+                Loaded::Word(w) => {
+                    back = set_reg(r, back, x, w);
+                    at = at + 4;
+                }
+                Loaded::Refused(why) => {
+                    return Undone {
+                        verdict: Verdict::Refused(why),
+                        sp: at,
+                        lr: back,
+                    };
+                }
+            }
+        }
     }
-}
-
-// These registers, with SP to go here.
-fn moved(g: Regs, sp: u64) -> Undone
-    ensures { λ u. ⌜ u ≡ undone g (ok (setSp g sp)) ⌝ }
-{
     Undone {
         verdict: Verdict::Given,
-        regs: g,
-        sp,
+        sp: at,
+        lr: back,
     }
-}
-
-// A register takes the word at SP, and SP moves over it.
-fn pop_reg(x: usize, g: Regs, sp: u64, base: u32, stack: &[u8]) -> Undone
-    ensures { λ u. ⌜ u ≡ undone g (popReg (lent base (now (stack .entry))) x (setSp g sp)) ⌝ }
-{
-    match load(base, stack, sp) {
-        Loaded::Word(w) => moved(set_reg(g, x, w), sp + 4),
-        Loaded::Refused(r) => kept(g, r),
-    }
-}
-
-// A d register takes the two words at SP, and SP moves over them.
-fn pop_d(x: usize, g: Regs, sp: u64, base: u32, stack: &[u8]) -> Undone
-    ensures { λ u. ⌜ u ≡ undone g (popD (lent base (now (stack .entry))) x (setSp g sp)) ⌝ }
-{
-    match load(base, stack, sp) {
-        Loaded::Word(low) => match load(base, stack, sp + 4) {
-            Loaded::Word(high) => moved(set_d(g, x, low, high), sp + 8),
-            Loaded::Refused(r) => kept(g, r),
-        },
-        Loaded::Refused(r) => kept(g, r),
-    }
-}
-
-// The register of a number, if a list has it.
-fn pop_listed(list: u16, x: usize, g: Regs, sp: u64, base: u32, stack: &[u8]) -> Undone
-    requires { ⌜ x < 16 ⌝ }
-    ensures { λ u. ⌜ u ≡ undone g (if bit x list then popReg (lent base (now (stack .entry))) x (setSp g sp) else ok (setSp g sp)) ⌝ }
-{
-    if has(list, x) {
-        return pop_reg(x, g, sp, base, stack);
-    }
-    moved(g, sp)
-}
-
-// Pops a list, the lowest register from the lowest address; 14 is its last.
-fn pop(list: u16, g: Regs, base: u32, stack: &[u8]) -> Undone
-    ensures { λ u. ⌜ u ≡ undone g (popOf (lent base (now (stack .entry))) list 15 g) ⌝ }
-{
-    let mut h = g;
-    let mut sp = g.sp as u64;
-    for x in 0..15 {
-        let u = pop_listed(list, x, h, sp, base, stack);
-        let verdict = u.verdict;
-        if let Verdict::Refused(r) = verdict {
-            return kept(g, r);
-        }
-        h = u.regs;
-        sp = u.sp;
-    }
-    moved(h, sp)
 }
 
 // Pops dS to dE, the lowest from the lowest address.
-fn vpop(s: u8, e: u8, g: Regs, base: u32, stack: &[u8]) -> Undone
-    ensures { λ u. ⌜ u ≡ undone g (vpopOf (lent base (now (stack .entry))) s (e + 1 - s) g) ⌝ }
+fn vpop(s: u8, e: u8, d: &mut [u64; 32], sp: u32, lr: u32, base: u32, stack: &[u8]) -> Undone
+    ensures { λ u. ⌜ ((r : List ℕ) (pc : ℕ) → came (u .verdict) (regs r (u .sp) (u .lr) pc (now (d .exit))) ≡ vpopOf (lent base (now (stack .entry))) s (e + 1 - s) (regs r sp lr pc (now (d .entry)))) ⌝ }
 {
-    let mut h = g;
-    let mut sp = g.sp as u64;
+    let mut at = sp as u64;
     for x in (s as usize)..(e as usize) + 1 {
-        let u = pop_d(x, h, sp, base, stack);
-        let verdict = u.verdict;
-        if let Verdict::Refused(r) = verdict {
-            return kept(g, r);
+        match load_two(base, stack, at) {
+            LoadedTwo::Words(low, high) => set_d(d, x, low, high),
+            LoadedTwo::Refused(why) => {
+                return Undone {
+                    verdict: Verdict::Refused(why),
+                    sp: at,
+                    lr: lr,
+                };
+            }
         }
-        h = u.regs;
-        sp = u.sp;
+        at = at + 8;
     }
-    moved(h, sp)
+    Undone {
+        verdict: Verdict::Given,
+        sp: at,
+        lr: lr,
+    }
 }
 
 // LR takes the word at SP, and SP moves by an amount.
-fn load_lr(n: StackWords, g: Regs, base: u32, stack: &[u8]) -> Undone
-    ensures { λ u. ⌜ u ≡ undone g (effectOf (lent base (now (stack .entry))) (Undo.LoadLr n) g) ⌝ }
+fn load_lr(n: StackWords, r: &mut [u32; 13], sp: u32, lr: u32, base: u32, stack: &[u8]) -> Undone
+    ensures { λ u. ⌜ ((pc : ℕ) (d : List ℕ) → came (u .verdict) (regs (now (r .exit)) (u .sp) (u .lr) pc d) ≡ effectOf (lent base (now (stack .entry))) (Undo.LoadLr n) (regs (now (r .entry)) sp lr pc d)) ⌝ }
 {
-    let sp = g.sp as u64;
-    match load(base, stack, sp) {
-        Loaded::Word(w) => moved(set_reg(g, 14, w), sp + words::stack_bytes(n)),
-        Loaded::Refused(r) => kept(g, r),
+    match load(base, stack, sp as u64) {
+        Loaded::Word(w) => Undone {
+            verdict: Verdict::Given,
+            sp: (sp as u64) + words::stack_bytes(n),
+            lr: set_reg(r, lr, 14, w),
+        },
+        Loaded::Refused(why) => Undone {
+            verdict: Verdict::Refused(why),
+            sp: sp as u64,
+            lr: lr,
+        },
+    }
+}
+
+// SP moves, and nothing else.
+fn moved(sp: u64, lr: u32) -> Undone
+    ensures { λ u. ⌜ u ≡ record { verdict = Verdict.Given; sp = sp; lr = lr } ⌝ }
+{
+    Undone {
+        verdict: Verdict::Given,
+        sp: sp,
+        lr: lr,
     }
 }
 
 // What a code undoes, before SP is looked at.
-fn effect(undo: Undo, g: Regs, base: u32, stack: &[u8]) -> Undone
-    ensures { λ u. ⌜ u ≡ undone g (effectOf (lent base (now (stack .entry))) undo g) ⌝ }
+fn effect(
+    undo: Undo,
+    r: &mut [u32; 13],
+    d: &mut [u64; 32],
+    sp: u32,
+    lr: u32,
+    base: u32,
+    stack: &[u8],
+) -> Undone
+    ensures { λ u. ⌜ ((pc : ℕ) → came (u .verdict) (regs (now (r .exit)) (u .sp) (u .lr) pc (now (d .exit))) ≡ effectOf (lent base (now (stack .entry))) undo (regs (now (r .entry)) sp lr pc (now (d .entry)))) ⌝ }
 {
-    let sp = g.sp as u64;
     match undo {
-        Undo::Up(n) => moved(g, sp + words::stack_bytes(n)),
-        Undo::Pop(list) => pop(list, g, base, stack),
-        Undo::SpFrom(x) => moved(g, reg(g, x as usize) as u64),
-        Undo::Vpop(s, e) => vpop(s, e, g, base, stack),
-        Undo::LoadLr(n) => load_lr(n, g, base, stack),
-        Undo::Nothing => moved(g, sp),
+        Undo::Up(n) => moved((sp as u64) + words::stack_bytes(n), lr),
+        Undo::Pop(list) => pop(list, r, sp, lr, base, stack),
+        Undo::SpFrom(x) => moved(reg(r, lr, x as usize) as u64, lr),
+        Undo::Vpop(s, e) => vpop(s, e, d, sp, lr, base, stack),
+        Undo::LoadLr(n) => load_lr(n, r, sp, lr, base, stack),
+        Undo::Nothing => moved(sp as u64, lr),
     }
 }
 
 // One code, after which SP must stand in the stack.
+fn undo_one(
+    code: Code,
+    r: &mut [u32; 13],
+    d: &mut [u64; 32],
+    sp: u32,
+    lr: u32,
+    base: u32,
+    stack: &[u8],
+) -> Stood
+    ensures { λ u. ⌜ ((pc : ℕ) → came (u .verdict) (regs (now (r .exit)) (u .sp) (u .lr) pc (now (d .exit))) ≡ stepOf (lent base (now (stack .entry))) code (regs (now (r .entry)) sp lr pc (now (d .entry)))) ⌝ }
+{
+    let undo = code.undo;
+    let u = effect(undo, r, d, sp, lr, base, stack);
+    let verdict = u.verdict;
+    if let Verdict::Refused(why) = verdict {
+        return Stood {
+            verdict: Verdict::Refused(why),
+            sp: sp,
+            lr: lr,
+        };
+    }
+    let at = u.sp;
+    if stands(base, stack, at) {
+        return Stood {
+            verdict: Verdict::Given,
+            sp: at as u32,
+            lr: u.lr,
+        };
+    }
+    Stood {
+        verdict: Verdict::Refused(Refusal::BadStack),
+        sp: sp,
+        lr: lr,
+    }
+}
+
+// One code from the given registers.
 pub fn step(code: Code, g: Regs, base: u32, stack: &[u8]) -> Stepped
     ensures { λ r. ⌜ r ≡ stepped g (stepOf (lent base (now (stack .entry))) code g) ⌝ }
 {
-    let undo = code.undo;
-    let u = effect(undo, g, base, stack);
+    let mut r = g.r;
+    let mut d = g.d;
+    let u = undo_one(code, &mut r, &mut d, g.sp, g.lr, base, stack);
     let verdict = u.verdict;
-    if let Verdict::Refused(r) = verdict {
+    if let Verdict::Refused(why) = verdict {
         return Stepped {
-            verdict: Verdict::Refused(r),
+            verdict: Verdict::Refused(why),
             regs: g,
-        };
-    }
-    let sp = u.sp;
-    if stands(base, stack, sp) {
-        let mut h = u.regs;
-        h.sp = sp as u32;
-        return Stepped {
-            verdict: Verdict::Given,
-            regs: h,
         };
     }
     Stepped {
-        verdict: Verdict::Refused(Refusal::BadStack),
-        regs: g,
-    }
-}
-
-// No code run, by this refusal.
-fn stopped(g: Regs, r: Refusal) -> Ran
-    ensures { λ x. ⌜ x ≡ ran g 0 (refuse r) ⌝ }
-{
-    Ran {
-        verdict: Verdict::Refused(r),
-        regs: g,
-        codes: 0,
-    }
-}
-
-// A code run from these registers, and then what the rest came to.
-fn one_more(g: Regs, rest: Ran) -> Ran
-    requires { ⌜ rest .codes < 2 ^ 63 ⌝ }
-    ensures { λ x. ⌜ x ≡ oneMore g rest ⌝ }
-{
-    let verdict = rest.verdict;
-    if let Verdict::Refused(r) = verdict {
-        return stopped(g, r);
-    }
-    let h = rest.regs;
-    Ran {
         verdict: Verdict::Given,
-        regs: h,
-        codes: rest.codes + 1,
+        regs: Regs {
+            r: r,
+            sp: u.sp,
+            lr: u.lr,
+            pc: g.pc,
+            d: d,
+        },
     }
 }
 
-// Runs the codes from an index on: the caller after a code list is the caller after its first code and then after the rest.
-pub fn run(codes: &[u8], at: CodeBytes, g: Regs, base: u32, stack: &[u8]) -> Ran
-    ensures { λ r. ⌜ r ≡ ran g (length (scan (now (codes .entry)) at .list)) (runAt (lent base (now (stack .entry))) (now (codes .entry)) at g) ⌝ }
+// The codes from an index on: the caller after a code list is the caller after its first code and then after the rest.
+fn run_on(
+    codes: &[u8],
+    at: CodeBytes,
+    r: &mut [u32; 13],
+    d: &mut [u64; 32],
+    sp: u32,
+    lr: u32,
+    base: u32,
+    stack: &[u8],
+) -> Ended
+    ensures { λ u. ⌜ ((pc : ℕ) → came (u .verdict) (regs (now (r .exit)) (u .sp) (u .lr) pc (now (d .exit))) ≡ runAt (lent base (now (stack .entry))) (now (codes .entry)) at (regs (now (r .entry)) sp lr pc (now (d .entry)))) × Counted (u .verdict) (u .codes) (length (scan (now (codes .entry)) at .list)) ⌝ }
 {
     match codes::take_at(codes, at) {
         Taken::One(code, next) => {
-            let first = step(code, g, base, stack);
+            let first = undo_one(code, r, d, sp, lr, base, stack);
             let verdict = first.verdict;
-            if let Verdict::Refused(r) = verdict {
-                return stopped(g, r);
+            if let Verdict::Refused(why) = verdict {
+                return Ended {
+                    verdict: Verdict::Refused(why),
+                    sp: sp,
+                    lr: lr,
+                    codes: 0,
+                };
             }
-            let h = first.regs;
-            one_more(g, run(codes, next, h, base, stack))
+            let rest = run_on(codes, next, r, d, first.sp, first.lr, base, stack);
+            let end = rest.verdict;
+            Ended {
+                verdict: end,
+                sp: rest.sp,
+                lr: rest.lr,
+                codes: rest.codes + 1,
+            }
         }
-        Taken::Last(_) => Ran {
+        Taken::Last(_) => Ended {
             verdict: Verdict::Given,
-            regs: g,
+            sp: sp,
+            lr: lr,
             codes: 0,
         },
-        Taken::Bad(i) => stopped(g, Refusal::BadCodes(i)),
+        Taken::Bad(i) => Ended {
+            verdict: Verdict::Refused(Refusal::BadCodes(i)),
+            sp: sp,
+            lr: lr,
+            codes: 0,
+        },
+    }
+}
+
+// Runs the codes from an index on, from the given registers.
+pub fn run(codes: &[u8], at: CodeBytes, g: Regs, base: u32, stack: &[u8]) -> Ran
+    ensures { λ r. ⌜ r ≡ ran g (length (scan (now (codes .entry)) at .list)) (runAt (lent base (now (stack .entry))) (now (codes .entry)) at g) ⌝ }
+{
+    let mut r = g.r;
+    let mut d = g.d;
+    let u = run_on(codes, at, &mut r, &mut d, g.sp, g.lr, base, stack);
+    let verdict = u.verdict;
+    if let Verdict::Refused(why) = verdict {
+        return Ran {
+            verdict: Verdict::Refused(why),
+            regs: g,
+            codes: 0,
+        };
+    }
+    Ran {
+        verdict: Verdict::Given,
+        regs: Regs {
+            r: r,
+            sp: u.sp,
+            lr: u.lr,
+            pc: g.pc,
+            d: d,
+        },
+        codes: u.codes,
     }
 }

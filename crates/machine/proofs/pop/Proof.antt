@@ -1,56 +1,87 @@
 -- `pop` meets its contract. The loop's invariant: the registers and SP are what the definition's pop of the numbers passed gives. The
 -- measure is how many are left. A turn's refusal is the whole pop's.
 -- Assumes nothing.
-use Prim.Native.Nat.{_-_, _≤_}
-use mathlib.Core.Path.{_≡_, refl, sym, ap, _∙_}
+use Prim.Native.Nat.{ℕ, _-_, _≤_}
+use mathlib.Core.Logic.{⊎-elim}
+use mathlib.Core.Path.{_≡_, sym, _∙_}
+use mathlib.Core.List.{List}
 use native.Mathlib.Omega.{arith}
 use borrow.Author.Needs.{needs}
-use Rattle.words.specs.Lent.{lent}
+use Rattle.words.specs.Lent.{Lent, lent}
 use Rattle.unwinding.specs.Answer.{ok}
-use Rattle.machine.specs.Registers.{setSp}
-use Rattle.machine.specs.Step.{pop}
-use Rattle.machine.specs.Answers.{undone}
-use Rattle.machine.proofs.Answers.{undone-given, undone-sp, undone-refused, undone-made}
-use Rattle.machine.proofs.Popping.{goes-on, stops, listed, pop-none, pop-next}
+use Rattle.machine.specs.Step.{load, pop}
+use Rattle.machine.specs.Answers.{regs}
+use Rattle.machine.proofs.Answers.{loaded-word, loaded-refused}
+use Rattle.machine.proofs.Loading.{load-inside}
+use Rattle.machine.proofs.Popping.{goes-on, stops, listed, listed-word, listed-not, listed-refused, pop-none, pop-next}
 use Rattle.machine.proofs.pop.Statement.{statement}
 use Rattle.machine.proofs.pop.Tie as tie
 
 abbrev Inv-loop : tie.InvT-loop
-Inv-loop list g base stack h₀ sp₀ x₀ h sp x = (x ≤ 15) × (h .sp ≡ g .sp) × (pop (lent base stack) list x g ≡ ok (setSp h sp))
+Inv-loop list r₀ sp lr base stack at₀ back₀ x₀ r at back x =
+    (x ≤ 15) × ((pc : ℕ) (d : List ℕ) → pop (lent base stack) list x (regs r₀ sp lr pc d) ≡ ok (regs r at back pc d))
 
 abbrev μ-loop : tie.MeasureT-loop
-μ-loop list g base stack h₀ sp₀ x₀ h sp x = 15 - x
+μ-loop list r₀ sp lr base stack at₀ back₀ x₀ r at back x = 15 - x
 
-cast-sp : tie.Need-cast-sp Inv-loop μ-loop
-cast-sp c = search needs
+abbrev stack-of : tie.After-has Inv-loop μ-loop → Lent
+stack-of c = lent (c .before .before .before .before .args .base) (c .before .before .before .before .args .stack .now)
+
+-- what a turn came to
+turned :
+    (c : tie.Joined1 Inv-loop μ-loop) (pc : ℕ) (d : List ℕ)
+    → (let l = c .before .before .before .loop in
+    listed (stack-of (c .before)) (c .before .before .before .before .before .args .list) (l .x) (regs (l .r) (l .at) (l .back) pc d))
+    ≡ ok (regs (c .if1 .r) (c .if1 .at) (c .if1 .back) pc d)
+turned c pc d =
+    let l = c .before .before .before .loop in
+    let k = stack-of (c .before) in
+    let list = c .before .before .before .before .before .args .list in
+    ⊎-elim
+    (λ w. listed-word k list (l .x) (l .r) (l .at) (l .back) pc d _ _ _ _ (sym (c .before .has .ensures) ∙ w .0 .taken)
+    (loaded-word _ _ (sym (w .1 .ensures) ∙ w .3 .given .1)) (w .7 ∙ w .6 .ensures .1) (w .8) (w .9 ∙ w .6 .ensures .0))
+    (λ w. listed-not k list (l .x) (l .r) (l .at) (l .back) pc d _ _ _ (sym (c .before .has .ensures) ∙ w .0 .left) (w .1) (w .2) (w .3))
+    (c .if1 .came)
 
 loop-holds : tie.Need-loop-holds Inv-loop μ-loop
-loop-holds c = (search needs, refl, pop-none _ _ _)
+loop-holds c = (search needs, λ pc d. pop-none _ _ _)
 
-pop-listed-requires : tie.Need-pop-listed-requires Inv-loop μ-loop
-pop-listed-requires c κs = omega arith
+has-requires : tie.Need-has-requires Inv-loop μ-loop
+has-requires c κs = omega arith
 
-enum-known-verdict : tie.Need-enum-known-verdict Inv-loop μ-loop
-enum-known-verdict c = search needs
+load-requires : tie.Need-load-requires Inv-loop μ-loop
+load-requires c κs = search needs
 
-kept-requires : tie.Need-kept-requires Inv-loop μ-loop
-kept-requires c κs = search needs
+enum-known-w : tie.Need-enum-known-w Inv-loop μ-loop
+enum-known-w c = search needs
+
+set-reg-requires : tie.Need-set-reg-requires Inv-loop μ-loop
+set-reg-requires c κs = search needs
+
+add-at : tie.Need-add-at Inv-loop μ-loop
+add-at c =
+    let w = c .before .before .before in
+    let l = w .before .before in
+    let h = l .before .before in
+    let word = loaded-word (load (stack-of h) (h .before .before .loop .at)) _ (sym (l .load .ensures) ∙ w .w .given .1) in
+    let start = h .before .before .before .before in
+    omega (arith, load-inside _ _ _ word, start .fits, start .good)
+
+enum-known-why : tie.Need-enum-known-why Inv-loop μ-loop
+enum-known-why c = search needs
 
 returns : tie.Need-returns Inv-loop μ-loop
-returns c =
-    let t = c .before .before .before .before in
-    let l = t .before .before .loop in
-    let a = t .before .before .before .before .before .args in
-    let k = lent (a .base) (a .stack .now) in
-    let turn = listed k (a .list) (l .x) (setSp (l .h) (l .sp)) in
-    let bad = undone-refused (l .h) turn (t .pop-listed .result) _ (t .pop-listed .ensures) (c .before .before .verdict .given .1) in
-    c .kept .ensures
-    ∙ sym
-    (ap (undone (a .g))
-    (stops (λ n. pop k (a .list) n (a .g)) (listed k (a .list)) (pop-next k (a .list) (a .g)) (l .x) 15 (setSp (l .h) (l .sp)) _ (l .inv .2) bad (omega arith)))
-
-enum-told : tie.Need-enum-told Inv-loop μ-loop
-enum-told c = search needs
+returns c pc d =
+    let f = c .before .before .before in
+    let h = f .before .before in
+    let l = h .before .before .loop in
+    let a = h .before .before .before .before .args in
+    let k = stack-of h in
+    let none = loaded-refused (load k (l .at)) _ (sym (f .load .ensures) ∙ c .before .why .given .1) in
+    let g = regs (a .r .now) (a .sp) (a .lr) pc d in
+    sym
+    (stops (λ n. pop k (a .list) n g) (listed k (a .list)) (pop-next k (a .list) g) (l .x) 15 (regs (l .r) (l .at) (l .back) pc d) _ (l .inv .1 pc d)
+    (listed-refused k (a .list) (l .x) (l .r) (l .at) (l .back) pc d _ (sym (h .has .ensures) ∙ f .before .if1 .taken) none) (omega arith))
 
 add-x : tie.Need-add-x Inv-loop μ-loop
 add-x c = omega arith
@@ -60,27 +91,20 @@ loop-less c = omega arith
 
 loop-again : tie.Need-loop-again Inv-loop μ-loop
 loop-again c =
-    let t = c .before .before .before in
-    let l = t .before .before .loop in
-    let a = t .before .before .before .before .before .args in
-    let k = lent (a .base) (a .stack .now) in
-    let turn = listed k (a .list) (l .x) (setSp (l .h) (l .sp)) in
-    let good = undone-given (l .h) turn (t .pop-listed .result) (t .pop-listed .ensures) (c .before .enum-told .given .1) in (
+    let l = c .before .before .before .loop in
+    let a = c .before .before .before .before .before .args in
+    let k = stack-of (c .before) in
+    let g : ℕ → List ℕ → _ = λ pc d. regs (a .r .now) (a .sp) (a .lr) pc d in (
       omega arith,
-      undone-sp (l .h) turn (t .pop-listed .result) (t .pop-listed .ensures) ∙ l .inv .1,
-      goes-on (λ n. pop k (a .list) n (a .g)) (listed k (a .list)) (pop-next k (a .list) (a .g)) (l .x) (setSp (l .h) (l .sp)) _ (l .inv .2) good,
+      λ pc d. goes-on (λ n. pop k (a .list) n (g pc d)) (listed k (a .list)) (pop-next k (a .list) (g pc d)) (l .x) (regs (l .r) (l .at) (l .back) pc d) _
+          (l .inv .1 pc d) (turned c pc d),
     )
 
-moved-requires : tie.Need-moved-requires Inv-loop μ-loop
-moved-requires c κs = search needs
-
 returns-2 : tie.Need-returns-2 Inv-loop μ-loop
-returns-2 c =
-    let l = c .before .before .loop in
-    let a = c .before .before .before .before .before .args in
+returns-2 c pc d =
+    let l = c .before .loop in
     let all : l .x ≡ 15 = omega arith in
-    c .moved .ensures
-    ∙ undone-made (a .g) (l .h) (l .sp) (pop (lent (a .base) (a .stack .now)) (a .list) 15 (a .g)) (rw all at (l .inv .2)) (l .inv .1)
+    sym (rw all at (l .inv .1 pc d))
 
 pub pop-spec : {M : Type 1} → statement M
 pop-spec =
@@ -88,15 +112,15 @@ pop-spec =
     (tie.spec
     Inv-loop
     μ-loop
-    cast-sp
     loop-holds
-    pop-listed-requires
-    enum-known-verdict
-    kept-requires
+    has-requires
+    load-requires
+    enum-known-w
+    set-reg-requires
+    add-at
+    enum-known-why
     returns
-    enum-told
     add-x
     loop-less
     loop-again
-    moved-requires
     returns-2)

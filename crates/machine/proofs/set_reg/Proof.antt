@@ -1,37 +1,34 @@
--- `set_reg` meets its contract: there is no r14, so that a word for LR leaves the list as it is, and so does a number that has no register.
+-- `set_reg` meets its contract: past the end there is nothing, and the list stays as it is.
 -- Assumes nothing.
-use Prim.Native.Nat.{_≤_}
-use mathlib.Core.Path.{_≡_}
-use lib.ListN.{length}
+use mathlib.Core.Logic.{⊎-elim}
+use mathlib.Core.Path.{_≡_, sym, ap, _∙_}
+use lib.ListN.{length, set, length-set}
 use lib.Seq.{set-out}
-use native.Mathlib.Omega.{arith}
 use borrow.Author.Needs.{needs}
 use borrow.Author.Tests.{eq-eqb, ne-eqb}
 use Rattle.machine.proofs.set_reg.Statement.{statement}
 use Rattle.machine.proofs.set_reg.Tie as tie
 
+stored : (c : tie.Joined1) → c .if1 .r ≡ set (c .before .args .r .now) (c .before .args .x) (c .before .args .w)
+stored c = ⊎-elim (λ w. w .1) (λ w. w .1 ∙ sym (set-out _ _ _ (w .0 .left))) (c .if1 .came)
+
+mul-r : tie.Need-mul-r
+mul-r c = search needs
+
+slice-write-r : tie.Need-slice-write-r
+slice-write-r c = search needs
+
+same-length : tie.Need-same-length
+same-length c = ap length (stored (c .before)) ∙ simp length-set
+
 returns : tie.Need-returns
-returns c =
-    let a = c .before .args in
-    let n : length (a .g .r) ≡ 13 = search needs in
-    let past : length (a .g .r) ≤ a .x = omega arith in
-    simp (eq-eqb _ _ (c .if1 .taken), set-out (a .g .r) (a .x) (a .w) past)
+returns c = (simp (eq-eqb _ _ (c .if2 .taken)), stored (c .before))
 
-mul-h : tie.Need-mul-h
-mul-h c = search needs
-
-element-write-h : tie.Need-element-write-h
-element-write-h c = search needs
+same-length-2 : tie.Need-same-length-2
+same-length-2 c = ap length (stored (c .before)) ∙ simp length-set
 
 returns-2 : tie.Need-returns-2
-returns-2 c = simp (ne-eqb _ _ (c .before .if1 .left))
-
-returns-3 : tie.Need-returns-3
-returns-3 c =
-    let a = c .before .before .args in
-    let n : length (a .g .r) ≡ 13 = search needs in
-    let past : length (a .g .r) ≤ a .x = omega arith in
-    simp (ne-eqb _ _ (c .before .if1 .left), set-out (a .g .r) (a .x) (a .w) past)
+returns-2 c = (simp (ne-eqb _ _ (c .if2 .left)), stored (c .before))
 
 pub set-reg-spec : {M : Type 1} → statement M
-set-reg-spec = tie.close (tie.spec returns mul-h element-write-h returns-2 returns-3)
+set-reg-spec = tie.close (tie.spec mul-r slice-write-r same-length returns same-length-2 returns-2)

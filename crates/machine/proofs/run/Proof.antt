@@ -1,0 +1,32 @@
+-- `run` meets its contract: what the codes came to in place is given back, or the given registers where they were refused.
+-- Assumes nothing.
+use mathlib.Core.Path.{sym, ap}
+use Rattle.machine.specs.Run.{ran}
+use Rattle.machine.proofs.Answers.{came-refused, came-ran}
+use borrow.Author.Needs.{needs}
+use Rattle.machine.proofs.run.Statement.{statement}
+use Rattle.machine.proofs.run.Tie as tie
+
+run-on-requires : tie.Need-run-on-requires
+run-on-requires c κs = search needs
+
+enum-known-verdict : tie.Need-enum-known-verdict
+enum-known-verdict c = search needs
+
+returns : tie.Need-returns
+returns c =
+    let u = c .before .before .before in
+    let a = u .before .before .before .before .before .before .before .args in
+    sym (ap (ran (a .g) _) (came-refused _ _ _ _ (u .run-on .ensures .0 (a .g .pc)) (c .before .verdict .given .1)))
+
+enum-told : tie.Need-enum-told
+enum-told c = search needs
+
+returns-2 : tie.Need-returns-2
+returns-2 c =
+    let u = c .before .before in
+    let a = u .before .before .before .before .before .before .before .args in
+    came-ran (a .g) _ _ _ _ _ (u .run-on .ensures .0 (a .g .pc)) (u .run-on .ensures .1) (c .enum-told .given .1)
+
+pub run-spec : {M : Type 1} → statement M
+run-spec = tie.close (tie.spec run-on-requires enum-known-verdict returns enum-told returns-2)
