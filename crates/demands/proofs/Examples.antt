@@ -121,10 +121,10 @@ adjust-3F4 :
 adjust-3F4 = (refl, refl, refl)
 
 -- "Whole listing"
-abbrev regs : (pc sp : ℕ) → Regs
+abbrev pub regs : (pc sp : ℕ) → Regs
 regs c s = record { r = replicate 13 0; sp = s; lr = 0; pc = c; d = replicate 32 0 }
 
-abbrev given : Regs
+abbrev pub given : Regs
 given = regs 0x00401002 0x20008
 
 abbrev pdata : List ℕ
@@ -133,11 +133,11 @@ pdata = bytesOf (0x1000 ∷ 0x00910041 ∷ 0x2000 ∷ 0x00100081 ∷ [])
 abbrev stack : List ℕ
 stack = bytesOf (0 ∷ 0 ∷ 0x44 ∷ 0x55 ∷ 0x00402011 ∷ 0x66 ∷ 0 ∷ [])
 
-abbrev inputs : Inputs
+abbrev pub inputs : Inputs
 inputs =
     record { image = 0x00400000; pdata = pdata; xdata = record { base = 0; bytes = [] }; stack = record { base = 0x20000; bytes = stack } }
 
-listing-walk :
+pub listing-walk :
     walk inputs 256 given
     ≡ record { frames = record { pc = 0x00401002; sp = 0x20008; place = Prologue } ∷ record { pc = 0x00402010; sp = 0x20014; place = Body } ∷ []; stop = End; codes = 2 }
 unfolding opened
@@ -166,7 +166,7 @@ unfolding opened
 packed-20 = refl
 
 -- offset 2 with all its registers: r4, r5 and LR loaded
-packed-2-frame :
+pub packed-2-frame :
     frame inputs given
     ≡ ok
     (record { regs = record { r = 0 ∷ 0 ∷ 0 ∷ 0 ∷ 0x44 ∷ 0x55 ∷ replicate 7 0; sp = 0x20014; lr = 0x00402011; pc = 0x00402010; d = replicate 32 0 }; place = Prologue; handler = 0; codes = 1 })

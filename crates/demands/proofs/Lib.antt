@@ -1,1 +1,7 @@
 pub mod Examples
+pub mod Staying
+pub mod Wider
+pub mod Numbers
+pub mod Ours
+pub mod Refuted
+pub mod Contracts

@@ -31,7 +31,8 @@ use Rattle.tables.specs.Record.{lastScope, packedShape, shapeOf}
 use Rattle.tables.specs.Xdata.{fitXdata}
 use Rattle.tables.specs.declared.Entry.{Entry}
 use Rattle.tables.specs.declared.Packed.{Packed}
-use Rattle.frame.specs.Frame.{Inputs, Caller, fitStack, within, byRecord, frameOf, frame}
+use Rattle.frame.specs.Frame.{Inputs, Caller, fitStack, within, byRecord, frameOf, frame, unwound}
+use Rattle.frame.specs.declared.Unwound.{Unwound}
 use Rattle.forward.specs.State.{State, Outside}
 use Rattle.forward.specs.Exits.{Of, here, later, SavesD, Fit, full, packed}
 use Rattle.forward.specs.Stop.{codesOf}
@@ -151,7 +152,11 @@ passed :
 unfolding frameOf byRecord
 passed t k g e s o c a b f n h p q w = rw (a, b, f, n, h, ← p, lt-ltb o (s .span) q) w
 
-framed : (t : Inputs) (entry now : State) (a : Asked t entry now) → Finds frame t entry now (a .place) (a .shape .handler) (a .undone)
+-- one frame's whole answer
+abbrev pub answer : Inputs → Regs → Unwound
+answer t g = unwound g (frame t g)
+
+framed : (t : Inputs) (entry now : State) (a : Asked t entry now) → Finds answer t entry now (a .place) (a .shape .handler) (a .undone)
 framed t entry now a =
     let fit = both (fitStack (t .stack)) (fitXdata (t .xdata)) (a .passes1) in
     let y = viewed (a .shape) (a .view) (a .passes6-7) in
@@ -160,18 +165,19 @@ framed t entry now a =
     let r = ready (a .own) (a .shape) (a .view) entry y (a .aligned) (fit-second (t .xdata) (a .own) (a .shape) (a .view) (a .passes4-5) y) top (a .stopped) in
     let f = finds-in (a .shape) (a .view) entry (a .offset) now (a .place) (a .undone) (a .passes6-7) (a .aligned) top m r in
     record {
-      caller = f .caller;
-      given = λ k o.
+      caller = unwound (now .regs) (ok (f .caller));
+      found = λ k o.
           let o′ : Outside (entry .regs .sp) (end (now .stack)) (now .stack) k = subst (λ (x : Lent). Outside (entry .regs .sp) (end x) x k) (sym (a .stack)) o in
-          passed t k (now .regs) (a .own) (a .shape) (a .offset) (f .caller) (fit-like (t .stack) k (o .base) (o .long) ∙ fit .0) (fit .1) (a .found)
+          ap (unwound (now .regs))
+          (passed t k (now .regs) (a .own) (a .shape) (a .offset) (f .caller) (fit-like (t .stack) k (o .base) (o .long) ∙ fit .0) (fit .1) (a .found)
           (stands-like (now .stack) k (entry .regs .sp) (now .regs .sp) (o′ .base) (o′ .long) top m (f .near))
           (a .passes4-5)
           (a .here)
           (a .covers)
-          (f .given k o′);
+          (f .given k o′));
       answer = f .answer;
     }
 
-pub demand3 : Demand3 frame
+pub demand3 : Demand3 answer
 unfolding Demand3
 demand3 t entry now a = framed t entry now a

@@ -17,7 +17,7 @@ use Rattle.codes.specs.Code.{size, codesAt}
 use Rattle.codes.specs.declared.Code.{Code}
 use Rattle.machine.specs.Registers.{reg}
 use Rattle.machine.specs.declared.Regs.{Regs}
-use Rattle.frame.specs.Frame.{Caller, returned, within}
+use Rattle.frame.specs.Frame.{Caller, returned, within, unwound}
 use Rattle.forward.specs.Registers.{value}
 use Rattle.forward.specs.State.{State, Outside}
 use Rattle.forward.specs.Demand.{Answer}
@@ -36,8 +36,9 @@ value-r g x h = rw (lt-ltb x 16 (omega arith)) refl
 abbrev callerOf : Regs → Place → (handler : ℕ) → List Code → Caller
 callerOf h p rva cs = record { regs = returned h; place = p; handler = rva; codes = length cs }
 
-answers : (entry : State) (p : Place) (rva : ℕ) (cs : List Code) (h : Regs) → Entry (st entry) (seen h) → Answer entry p rva cs (callerOf h p rva cs)
-answers entry p rva cs h e = record {
+answers : (entry : State) (p : Place) (rva : ℕ) (cs : List Code) (g h : Regs) → Entry (st entry) (seen h) → Answer entry p rva cs (unwound g (ok (callerOf h p rva cs)))
+answers entry p rva cs g h e = record {
+  given = refl;
   sp = e .sp;
   pc = ap even (e .r 14 (inr (inl refl)));
   r = λ x a b. sym (value-r h x b) ∙ e .r x (inl (a, b)) ∙ value-r (entry .regs) x b;
@@ -50,7 +51,7 @@ answers entry p rva cs h e = record {
 pub record FindsIn (s : Shape) (entry : State) (o : ℕ) (now : State) (p : Place) (cs : List Code) : Type 0 where
   pub caller : Caller
   pub given : (k : Lent) → Outside (entry .regs .sp) (end (now .stack)) (now .stack) k → within k s o (now .regs) ≡ ok caller
-  pub answer : Answer entry p (s .handler) cs caller
+  pub answer : Answer entry p (s .handler) cs (unwound (now .regs) (ok caller))
   pub near : Near (now .stack .base) (entry .regs .sp) (now .regs .sp)
 
 pub finds-in :
@@ -69,6 +70,6 @@ finds-in s v entry o now p cs w al top m y =
     record {
       caller = callerOf (u .next) p (s .handler) cs;
       given = λ k a. rw (w, y .todo, u .runs k a, le-leb _ _ up) refl;
-      answer = answers entry p (s .handler) cs (u .next) e;
+      answer = answers entry p (s .handler) cs (now .regs) (u .next) e;
       near = n;
     }

@@ -8,7 +8,8 @@ use lib.ListN.{length, getD}
 use Rattle.words.specs.Bits.{even}
 use Rattle.words.specs.Lent.{Lent, end}
 use Rattle.words.specs.declared.Place.{Place}
-use Rattle.unwinding.specs.Answer.{Res, ok}
+use Rattle.words.specs.declared.Verdict.the-variants.{Given}
+use Rattle.unwinding.specs.Answer.{ok}
 use Rattle.unwinding.specs.Shape.{Shape}
 use Rattle.unwinding.specs.View as Views
 use Rattle.codes.specs.Code.{size, codesAt}
@@ -19,7 +20,8 @@ use Rattle.tables.specs.Pdata.{find}
 use Rattle.tables.specs.Xdata.{fitXdata}
 use Rattle.tables.specs.Record.{shapeOf}
 use Rattle.tables.specs.declared.Entry.{Entry}
-use Rattle.frame.specs.Frame.{Inputs, Caller, fitStack}
+use Rattle.frame.specs.Frame.{Inputs, fitStack}
+use Rattle.frame.specs.declared.Unwound.{Unwound}
 use Rattle.forward.specs.State.{State, Outside}
 use Rattle.forward.specs.Stop.{Stopped}
 
@@ -48,9 +50,10 @@ pub record Asked (t : Inputs) (entry now : State) : Type 0 where
   pub undone : List Code
   pub stopped : Stopped own shape view entry offset now place undone
 
--- the answer: the caller's SP, pc, r4-r11 and d8-d15 are those at entry, "the return address compared with bit 0 cleared"; the place,
+-- the answer: the frame is not refused; the caller's SP, pc, r4-r11 and d8-d15 are those at entry, "the return address compared with bit 0 cleared"; the place,
 -- the handler and the count of the codes run
-pub record Answer (entry : State) (p : Place) (rva : ℕ) (undone : List Code) (c : Caller) : Type 0 where
+pub record Answer (entry : State) (p : Place) (rva : ℕ) (undone : List Code) (c : Unwound) : Type 0 where
+  pub given : c .verdict ≡ Given
   pub sp : c .regs .sp ≡ entry .regs .sp
   pub pc : c .regs .pc ≡ even (entry .regs .lr)
   pub r : (x : ℕ) → 4 ≤ x → x ≤ 11 → reg (c .regs) x ≡ reg (entry .regs) x
@@ -60,12 +63,13 @@ pub record Answer (entry : State) (p : Place) (rva : ℕ) (undone : List Code) (
   pub codes : c .codes ≡ length undone
 
 -- "Not read means: other values in those words change nothing in the answer": those at or above the caller's SP
-pub record Finds (unwind : Inputs → Regs → Res Caller) (t : Inputs) (entry now : State) (p : Place) (rva : ℕ) (undone : List Code) : Type 0 where
-  pub caller : Caller
-  pub given : (k : Lent) → Outside (entry .regs .sp) (end (t .stack)) (t .stack) k → unwind (lending t k) (now .regs) ≡ ok caller
+pub record Finds (unwind : Inputs → Regs → Unwound) (t : Inputs) (entry now : State) (p : Place) (rva : ℕ) (undone : List Code) : Type 0 where
+  pub caller : Unwound
+  pub found : (k : Lent) → Outside (entry .regs .sp) (end (t .stack)) (t .stack) k → unwind (lending t k) (now .regs) ≡ caller
   pub answer : Answer entry p rva undone caller
 
-unfoldable pub Demand3 : (Inputs → Regs → Res Caller) → Type 0
+-- of anything that takes these inputs and registers and gives an answer
+unfoldable pub Demand3 : (Inputs → Regs → Unwound) → Type 0
 Demand3 unwind =
     (t : Inputs) (entry now : State) (asked : Asked t entry now)
     → Finds unwind t entry now (asked .place) (asked .shape .handler) (asked .undone)

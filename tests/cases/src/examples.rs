@@ -39,21 +39,21 @@ const STACK_WORDS: u32 = 1_200;
 /// No function of any example covers it.
 const RETURN_ADDRESS: u32 = 0x00ab_cdef;
 
-enum Record {
+pub enum Record {
     Packed(u32),
     Full { bytes: Vec<u8>, handler: u32 },
 }
 
 /// A function with its instructions and their sizes as printed.
-struct Example {
-    start: u32,
-    length: u32,
-    record: Record,
-    prologue: Vec<(Effect, u32)>,
-    epilogue: Vec<(Effect, u32)>,
+pub struct Example {
+    pub start: u32,
+    pub length: u32,
+    pub record: Record,
+    pub prologue: Vec<(Effect, u32)>,
+    pub epilogue: Vec<(Effect, u32)>,
     /// Bytes of the branch at the epilogue's end, 0 if its last instruction returns.
-    branch: u32,
-    epilogue_starts: Vec<u32>,
+    pub branch: u32,
+    pub epilogue_starts: Vec<u32>,
 }
 
 fn packed(fields: PackedFields) -> Record {
@@ -75,7 +75,7 @@ fn page_1() -> Example {
     }
 }
 
-fn page_2() -> Example {
+pub fn page_2() -> Example {
     let push = Push(registers(4, 7) | LINK);
     Example {
         start: 0x0005_33ac,
@@ -88,7 +88,7 @@ fn page_2() -> Example {
     }
 }
 
-fn page_3() -> Example {
+pub fn page_3() -> Example {
     Example {
         start: 0x0005_3988,
         length: 0x54,
@@ -100,7 +100,7 @@ fn page_3() -> Example {
     }
 }
 
-fn page_4() -> Example {
+pub fn page_4() -> Example {
     let push = Push(registers(4, 10) | LINK);
     let starts = vec![0x22, 0x14a, 0x2e0, 0x312];
     let scopes = starts.iter().map(|start| Scope::always(*start, 0)).collect();
@@ -115,7 +115,7 @@ fn page_4() -> Example {
     }
 }
 
-fn page_5() -> Example {
+pub fn page_5() -> Example {
     let push = Push(registers(4, 8) | LINK);
     let scopes = Scopes::Listed(vec![Scope::always(0x18c, 0)]);
     Example {
@@ -129,7 +129,7 @@ fn page_5() -> Example {
     }
 }
 
-fn page_6() -> Example {
+pub fn page_6() -> Example {
     let push = Push(1 << 4 | 1 << 7 | LINK);
     let codes = [0xc7, 0x05, 0xed, 0x90, 0xff, 0x00, 0x00, 0x00];
     Example {
@@ -143,7 +143,7 @@ fn page_6() -> Example {
     }
 }
 
-fn page_7() -> Example {
+pub fn page_7() -> Example {
     Example {
         start: 0x0008_8c72,
         length: 0x16,
@@ -156,7 +156,7 @@ fn page_7() -> Example {
 }
 
 /// Document 01: packed 0x00910041.
-fn packed_of_01() -> Example {
+pub fn packed_of_01() -> Example {
     let push = Push(registers(4, 5) | LINK);
     Example {
         start: 0x1000,
@@ -170,7 +170,7 @@ fn packed_of_01() -> Example {
 }
 
 /// Document 01: header 0x102000A5.
-fn full_of_01() -> Example {
+pub fn full_of_01() -> Example {
     let push = Push(registers(4, 9) | LINK);
     let header = 0x1020_00a5_u32.to_le_bytes();
     let bytes = [header, [0xc7, 0xdd, 0x04, 0xfd]].concat();
@@ -255,12 +255,16 @@ pub fn vectors() -> Vectors {
 }
 
 /// What an answer says besides registers.
-struct Said {
-    place: &'static str,
-    handler: u32,
-    codes: usize,
+pub struct Said {
+    pub place: &'static str,
+    pub handler: u32,
+    pub codes: usize,
     /// The registers that are loaded from the stack, r0-r3 among them if a fold pushed them.
     loaded: u32,
+}
+
+impl Said {
+    pub const LEAF: Said = Said { place: "leaf", handler: 0, codes: 0, loaded: 0 };
 }
 
 impl Example {
@@ -279,6 +283,15 @@ impl Example {
         effects.iter().for_each(|effect| processor.execute(*effect));
         processor.run_body(&mut rng, &effects);
         processor
+    }
+
+    /// What is said of a pc at this place, with these instructions to undo.
+    pub fn says(&self, place: &'static str, undone: &[(Effect, u32)]) -> Said {
+        let loaded = undone.iter().fold(0, |loaded, (effect, _)| match effect {
+            Push(list) => loaded | list,
+            _ => loaded,
+        });
+        Said { place, handler: self.handler(), codes: undone.len(), loaded }
     }
 
     fn handler(&self) -> u32 {
@@ -328,8 +341,7 @@ impl Example {
 
     /// Behind the function nothing covers the pc: a leaf, which has not touched anything.
     fn stop_behind(&self, vectors: &mut Vectors) {
-        let said = Said { place: "leaf", handler: 0, codes: 0, loaded: 0 };
-        self.add(vectors, &self.entry(), self.length, Ok(said));
+        self.add(vectors, &self.entry(), self.length, Ok(Said::LEAF));
     }
 
     /// All words up to the stack's end are needed; one fewer is refused.
@@ -347,12 +359,7 @@ impl Example {
         place: &'static str,
         undone: &[(Effect, u32)],
     ) {
-        let loaded = undone.iter().fold(0, |loaded, (effect, _)| match effect {
-            Push(list) => loaded | list,
-            _ => loaded,
-        });
-        let said = Said { place, handler: self.handler(), codes: undone.len(), loaded };
-        self.add(vectors, processor, offset, Ok(said));
+        self.add(vectors, processor, offset, Ok(self.says(place, undone)));
     }
 
     fn refuses(&self, vectors: &mut Vectors, processor: &Processor, offset: u32, number: u32) {
@@ -395,8 +402,22 @@ impl Example {
     }
 }
 
-/// The answers if the frame unwinds: the state at entry, which goes on at the return address.
+/// The answers if the frame unwinds.
 fn add_unwound(vectors: &mut Vectors, draft: &Draft, entry: &Processor, said: &Said) {
+    let walk = format!(
+        "frame pc sp place\n0 {:08x} {:08x} {}\nrefused 12 at {:08x} frames 1 codes {}\n",
+        draft.r[PC],
+        draft.r[SP],
+        said.place,
+        RETURN_ADDRESS & !1,
+        said.codes,
+    );
+    vectors.add(&draft.bytes(), &walk, &caller_text(draft, entry, said));
+}
+
+/// What the caller program says if the frame unwinds: the state at entry, which goes on at the return
+/// address.
+pub fn caller_text(draft: &Draft, entry: &Processor, said: &Said) -> String {
     let Said { place, handler, codes, loaded } = said;
     let (mut r, mut d) = (draft.r, draft.d);
     let found = loaded | registers(4, 11);
@@ -405,21 +426,21 @@ fn add_unwound(vectors: &mut Vectors, draft: &Draft, entry: &Processor, said: &S
     }
     d[8..16].copy_from_slice(&entry.d[8..16]);
     r[SP] = entry.r[SP];
-    r[LR] = RETURN_ADDRESS;
-    r[PC] = RETURN_ADDRESS & !1;
+    r[LR] = entry.r[LR];
+    r[PC] = entry.r[LR] & !1;
     let first = format!("caller place {place} handler {handler:08x} codes {codes}\n");
-    let walk = format!(
-        "frame pc sp place\n0 {:08x} {:08x} {place}\nrefused 12 at {:08x} frames 1 codes {codes}\n",
-        draft.r[PC], draft.r[SP], r[PC],
-    );
-    vectors.add(&draft.bytes(), &walk, &(first + &show_registers(&r, &d)));
+    first + &show_registers(&r, &d)
 }
 
 fn add_refused(vectors: &mut Vectors, draft: &Draft, number: u32) {
     let pc = draft.r[PC];
     let walk = format!("frame pc sp place\nrefused {number} at {pc:08x} frames 0 codes 0\n");
-    let first = format!("refused {number}\n");
-    vectors.add(&draft.bytes(), &walk, &(first + &show_registers(&draft.r, &draft.d)));
+    vectors.add(&draft.bytes(), &walk, &refused_text(draft, number));
+}
+
+/// What the caller program says if the frame is refused: the registers as given.
+pub fn refused_text(draft: &Draft, number: u32) -> String {
+    format!("refused {number}\n") + &show_registers(&draft.r, &draft.d)
 }
 
 fn show_registers(r: &[u32; 16], d: &[u64; 32]) -> String {

@@ -21,9 +21,12 @@ mod packed;
 mod processor;
 mod records;
 mod rng;
+mod samples;
 mod scene;
 mod steps;
+mod stored;
 mod streams;
+mod thread;
 mod truth;
 mod unfit;
 mod victims;
@@ -34,6 +37,7 @@ use std::path::Path;
 use std::process::ExitCode;
 
 use peer::report::Report;
+use peer::text;
 
 use crate::examples::Vectors;
 use crate::histogram::{least, Histogram};
@@ -46,6 +50,7 @@ usage: cases generate --seed S --cases N        reports, each preceded by its le
        cases histogram --seed S --cases N       what they meet, and whether known answers are given
        cases examples DIR                       reports with their answers, also odd inputs
        cases truth JSONL WALKS CALLERS          real reports: the answers against the truth
+       cases stored REAL CRATES --seed S        the inputs stored with the programs
        cases pick FILE --number K               one report of a file of reports
        cases frame REPORT                       a report preceded by its length
        cases compare WHAT EXPECTED ANSWERED [AGAIN]
@@ -53,7 +58,9 @@ usage: cases generate --seed S --cases N        reports, each preceded by its le
                                                 is the command to see one again
        cases count EXPECTED ANSWERED            how many answers differ
        cases mutants FILE                       the names of the planted mistakes
-       cases plant FILE NAME DIR                plants one in the sources in DIR";
+       cases plant FILE NAME DIR                plants one in the sources in DIR
+       cases samples DIR                        the reports of samples/ with the peer's answers, which
+                                                must be those known beforehand";
 
 /// Differences shown in full.
 const SHOWN: usize = 3;
@@ -79,6 +86,7 @@ fn run() -> Result<bool, String> {
         ["histogram"] => count_classes(&options),
         ["examples", folder] => write_examples(Path::new(folder)),
         ["truth", truth, walks, callers] => check_truth(truth, walks, callers),
+        ["stored", real, crates] => write_stored(&options, real, Path::new(crates)),
         ["pick", file] => pick(file, options.number),
         ["frame", file] => print_framed(&bytes_of(file)?),
         ["compare", what, expected, answered] => compare(what, expected, answered, None),
@@ -88,6 +96,7 @@ fn run() -> Result<bool, String> {
         ["count", expected, answered] => count_differences(expected, answered),
         ["mutants", file] => list_mutants(file),
         ["plant", file, name, folder] => plant(file, name, Path::new(folder)),
+        ["samples", folder] => write_samples(Path::new(folder)),
         _ => Err(USAGE.to_string()),
     }
 }
@@ -164,6 +173,15 @@ fn write_examples(folder: &Path) -> Result<bool, String> {
     Ok(true)
 }
 
+fn write_stored(options: &Options, real: &str, crates: &Path) -> Result<bool, String> {
+    let stream = stored::stream(options.seed, options.cases, &bytes_of(real)?)?;
+    write_file(&crates.join("walk/stdin"), &examples::listing_draft().bytes())?;
+    write_file(&crates.join("caller/stdin"), &stored::offset_four().bytes())?;
+    write_file(&crates.join("walk_many/stdin"), &stream)?;
+    write_file(&crates.join("caller_many/stdin"), &stream)?;
+    Ok(true)
+}
+
 fn check_truth(truth: &str, walks: &str, callers: &str) -> Result<bool, String> {
     let (count, wrong) = truth::check(&text_of(truth)?, &text_of(walks)?, &text_of(callers)?);
     wrong.iter().for_each(|line| println!("{line}"));
@@ -222,4 +240,25 @@ fn plant(file: &str, name: &str, folder: &Path) -> Result<bool, String> {
     )?;
     println!("{}", mutant.what);
     Ok(true)
+}
+
+fn write_samples(folder: &Path) -> Result<bool, String> {
+    for sample in samples::samples() {
+        let file = |kind: &str| folder.join(format!("{}.{kind}", sample.name));
+        write_file(&file("report"), &sample.report)?;
+        let listing = text::listing(&sample.report);
+        write_known(&file("listing"), &listing, &sample.listing)?;
+        if let Some(known) = &sample.caller {
+            write_known(&file("caller"), &text::caller(&sample.report), known)?;
+        }
+    }
+    Ok(true)
+}
+
+/// An answer of the peer, if it is the one that is known.
+fn write_known(path: &Path, answer: &str, known: &str) -> Result<(), String> {
+    if answer != known {
+        return Err(format!("{}: known is\n{known}and the peer says\n{answer}", path.display()));
+    }
+    write_file(path, answer.as_bytes())
 }

@@ -1,0 +1,92 @@
+-- The three demands, of our reader.
+-- Assumes nothing.
+use Prim.Native.Nat.{ℕ, zero, suc, _≤_}
+use mathlib.Core.Path.{_≡_, refl, sym, ap, _∙_, subst}
+use mathlib.Core.Logic.{_≢_}
+use mathlib.Core.List.{List, [], _∷_, _++_}
+use mathlib.Core.Bool.{Bool, true, false}
+use lib.ListN.{length, drop, length-append, length-drop}
+use lib.Seq.{drop-append-seam}
+use lib.Dec.{eqb}
+use native.Mathlib.Omega.{arith}
+use Rattle.words.specs.Bits.{even}
+use Rattle.words.specs.Refusals.{number}
+use Rattle.words.specs.declared.Refusal.{Refusal}
+use Rattle.words.specs.declared.Verdict.the-variants as Verdict
+use Rattle.unwinding.specs.Answer.{Res, ok, refuse, either, verdict, if_then_else_}
+use Rattle.machine.specs.declared.Regs.{Regs}
+use Rattle.tables.specs.Xdata.{xdataSize, sizeAnswer}
+use Rattle.frame.specs.Frame.{Inputs, Caller, frame, unwound}
+use Rattle.walking.specs.Walk.{Trail, nextFrame, stopped, listed, walkFrom, walk, walkedAll}
+use Rattle.walking.specs.declared.Frame.{Frame}
+use Rattle.walking.specs.declared.Stop.{Stop}
+use Rattle.walking.specs.declared.Stop.the-variants as Stop
+use Rattle.report.proofs.Room.{walk-room}
+use Rattle.report.proofs.Sizes.{listing-fits}
+use Rattle.caller_text.proofs.Sizes.{caller-fits}
+use Rattle.forward.specs.Demand.{Demand3}
+use Rattle.forward.proofs.Framed as Framed
+use Rattle.demands.specs.Reader.{ours}
+use Rattle.demands.specs.Demand1.{Untouched, Demand1}
+use Rattle.demands.specs.Demand2.{Demand2}
+use Rattle.demands.proofs.Staying.{Stays}
+use Rattle.demands.proofs.Wider.{stays-frame, stays-walk, stays-size}
+use Rattle.demands.proofs.Numbers.{UpTo, numbered, up-first, up-next}
+
+-- ---- an answer by its verdict
+refused-is : (g : Regs) (x : Res Caller) (r : Refusal) → unwound g x .verdict ≡ Verdict.Refused r → x ≡ refuse r
+refused-is g (ok c) r e = absurd (let z : _≡_ {A = ℕ} 0 1 = cc in omega arith)
+refused-is g (refuse q) r e = ap refuse (let z : q ≡ r = cc in z)
+
+answer-stays : (g : Regs) (x y : Res Caller) → Stays x y → unwound g x .verdict ≡ Verdict.Given → unwound g y ≡ unwound g x
+answer-stays g (ok c) y h e = ap (unwound g) (h c refl)
+answer-stays g (refuse q) y h e = absurd (let z : _≡_ {A = ℕ} 0 1 = cc in omega arith)
+
+size-answer-stays : (x y : Res ℕ) → Stays x y → verdict x ≡ Verdict.Given → sizeAnswer y ≡ sizeAnswer x
+size-answer-stays (ok n) y h e = ap sizeAnswer (h n refl)
+size-answer-stays (refuse q) y h e = absurd (let z : _≡_ {A = ℕ} 0 1 = cc in omega arith)
+
+-- ---- the walk
+walk-number : (t : Inputs) (n : ℕ) (first : Bool) (g : Regs) (r : Refusal) (pc : ℕ) → walkFrom t n first g .stop ≡ Stop.Refused r pc → number r ≤ 13
+unfolding walkFrom
+walk-number t zero first g r pc e = absurd (let z : _≡_ {A = ℕ} 0 1 = cc in omega arith)
+walk-number t (suc n) first g r pc e = go (λ c. walk-number t n false (c .regs) r pc) (nextFrame first t g) refl
+  where
+    last : (c : Caller) (b : Bool) → (walkFrom t n false (c .regs) .stop ≡ Stop.Refused r pc → number r ≤ 13) → (if b then stopped Stop.End else walkFrom t n false (c .regs)) .stop ≡ Stop.Refused r pc → number r ≤ 13
+    last c true below q = absurd (let z : _≡_ {A = ℕ} 0 1 = cc in omega arith)
+    last c false below q = below q
+
+    go : ((c : Caller) → walkFrom t n false (c .regs) .stop ≡ Stop.Refused r pc → number r ≤ 13) → (x : Res Caller) → nextFrame first t g ≡ x → number r ≤ 13
+    go below (ok c) q = last c (eqb (c .regs .pc) 0) (below c) (rw q at e)
+    go below (refuse s) q =
+        let w : stopped (Stop.Refused s (even (g .pc))) .stop ≡ Stop.Refused r pc = rw q at e in
+        let z : s ≡ r = cc in
+        up-next first t g r (q ∙ ap refuse z)
+
+untouched : (l : List Frame) (w : Trail) → length (w .frames) ≤ length l → Untouched l (walkedAll l w)
+untouched l w h = record {
+  room = h;
+  long = let a = length-append (w .frames) (drop (length (w .frames)) l) in let b = length-drop (length (w .frames)) l in omega arith;
+  rest = drop-append-seam (w .frames) (drop (length (w .frames)) l);
+}
+
+-- ---- the demands
+pub demand1 : Demand1 ours
+demand1 = record {
+  frame-number = λ t g r e. (numbered r, up-first t g r (refused-is g (frame t g) r e));
+  walk-number = λ t g l r pc e. (numbered r, walk-number t (length l) true g r pc e);
+  given-back = λ t g r e. ap (unwound g) (refused-is g (frame t g) r e);
+  untouched = λ t g l. untouched l (walk t (length l) g) (walk-room t (length l) true g);
+  frame-stays = λ t t′ g w e. answer-stays g (frame t g) (frame t′ g) (stays-frame t t′ w true g) e;
+  walk-stays = λ t t′ g l w h. ap (walkedAll l) (stays-walk t t′ w (length l) true g h);
+  size-stays = λ x x′ at m f e. size-answer-stays (xdataSize x at) (xdataSize x′ at) (stays-size x x′ m at f) e;
+  list-fits = listing-fits;
+  show-fits = caller-fits;
+}
+
+pub demand2 : Demand2 ours
+demand2 =
+    record { record-of = λ i p c. refl; caller = λ t g. refl; callers = λ t g l. refl; bytes = λ x at. refl; word = λ p. refl; codes = λ w. refl; printed = λ s. refl; shown = λ s. refl }
+
+pub demand3 : Demand3 (ours .unwind)
+demand3 = Framed.demand3

@@ -1,0 +1,58 @@
+-- Demand 1: "It takes every report, damaged ones too, comes to an end and never reads outside what it was given. Each refusal has a number,
+-- hands the registers back as they came, and leaves frame records not yet filled untouched. A word it cannot read is refused, never taken
+-- for zero." That it takes every report and ends is said by its type: a reader answers every input.
+use Prim.Native.Nat.{ℕ, _+_, _≤_}
+use mathlib.Core.Path.{_≡_}
+use mathlib.Core.Logic.{_≢_}
+use mathlib.Core.List.{List, _++_}
+use mathlib.Core.Bool.{true, _&&_}
+use lib.ListN.{length, drop}
+use Rattle.words.specs.Lent.{Lent}
+use Rattle.words.specs.Refusals.{number}
+use Rattle.words.specs.declared.Refusal.{Refusal}
+use Rattle.words.specs.declared.Verdict.the-variants as Verdict
+use Rattle.unwinding.specs.Answer.{refuse}
+use Rattle.machine.specs.declared.Regs.{Regs}
+use Rattle.tables.specs.Xdata.{fitXdata}
+use Rattle.frame.specs.Frame.{Inputs, fitStack, unwound}
+use Rattle.walking.specs.declared.Frame.{Frame}
+use Rattle.walking.specs.declared.Stop.the-variants as Stop
+use Rattle.walking.specs.declared.WalkedAll.{WalkedAll}
+use Rattle.demands.specs.Reader.{Reader}
+
+-- the same bytes at the same addresses, with more lent before and after them
+pub record More (l l′ : Lent) : Type 0 where
+  pub before : List ℕ
+  pub after : List ℕ
+  pub base : l .base ≡ l′ .base + length before
+  pub bytes : l′ .bytes ≡ before ++ (l .bytes ++ after)
+
+-- the same inputs, with more .xdata and more stack, which pass 1
+pub record Wider (t t′ : Inputs) : Type 0 where
+  pub image : t′ .image ≡ t .image
+  pub pdata : t′ .pdata ≡ t .pdata
+  pub xdata : More (t .xdata) (t′ .xdata)
+  pub stack : More (t .stack) (t′ .stack)
+  pub fit : (fitStack (t′ .stack) && fitXdata (t′ .xdata)) ≡ true
+
+-- the records of a lent list that a walk has not filled are as they were
+pub record Untouched (lent : List Frame) (w : WalkedAll) : Type 0 where
+  pub room : w .walked .frames ≤ length lent
+  pub long : length (w .list) ≡ length lent
+  pub rest : drop (w .walked .frames) (w .list) ≡ drop (w .walked .frames) lent
+
+pub record Demand1 (a : Reader) : Type 0 where
+  -- "Each refusal has a number": of one frame 1 to 11, of a walk 1 to 13
+  pub frame-number : (t : Inputs) (g : Regs) (r : Refusal) → a .unwind t g .verdict ≡ Verdict.Refused r → (1 ≤ number r) × (number r ≤ 11)
+  pub walk-number : (t : Inputs) (g : Regs) (l : List Frame) (r : Refusal) (pc : ℕ) → a .walk t g l .walked .stop ≡ Stop.Refused r pc → (1 ≤ number r) × (number r ≤ 13)
+  -- it "hands the registers back as they came": with 0 codes, handler 0 and place leaf
+  pub given-back : (t : Inputs) (g : Regs) (r : Refusal) → a .unwind t g .verdict ≡ Verdict.Refused r → a .unwind t g ≡ unwound g (refuse r)
+  -- it "leaves frame records not yet filled untouched", however the walk stops
+  pub untouched : (t : Inputs) (g : Regs) (l : List Frame) → Untouched l (a .walk t g l)
+  -- it "never reads outside", and a word that it cannot read is "never taken for zero": an answer does not change with what lies beyond
+  pub frame-stays : (t t′ : Inputs) (g : Regs) → Wider t t′ → a .unwind t g .verdict ≡ Verdict.Given → a .unwind t′ g ≡ a .unwind t g
+  pub walk-stays : (t t′ : Inputs) (g : Regs) (l : List Frame) → Wider t t′ → ((r : Refusal) (pc : ℕ) → a .walk t g l .walked .stop ≢ Stop.Refused r pc) → a .walk t′ g l ≡ a .walk t g l
+  pub size-stays : (x x′ : Lent) (at : ℕ) → More x x′ → fitXdata x′ ≡ true → a .size x at .verdict ≡ Verdict.Given → a .size x′ at ≡ a .size x at
+  -- what the programs print fits their buffers
+  pub list-fits : (file : List ℕ) → length (a .list file) ≤ 8192
+  pub show-fits : (file : List ℕ) → length (a .show file) ≤ 1024

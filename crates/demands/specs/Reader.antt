@@ -1,0 +1,47 @@
+-- Any reader: what it answers to each of document 01's operations, whole. The three demands are asked of any.
+use Prim.Native.Nat.{ℕ}
+use mathlib.Core.List.{List}
+use lib.ListN.{length}
+use Rattle.words.specs.Lent.{Lent}
+use Rattle.machine.specs.declared.Regs.{Regs}
+use Rattle.tables.specs.Pdata.{find, found}
+use Rattle.tables.specs.Xdata.{xdataSize, sizeAnswer}
+use Rattle.tables.specs.Packed.{writeWord, wordAnswer}
+use Rattle.tables.specs.PackedCodes.{writeCodes, codesAnswer}
+use Rattle.tables.specs.declared.Found.{Found}
+use Rattle.tables.specs.declared.SizeOf.{SizeOf}
+use Rattle.tables.specs.declared.Packed.{Packed}
+use Rattle.tables.specs.declared.WordOf.{WordOf}
+use Rattle.tables.specs.declared.CodesOf.{CodesOf}
+use Rattle.frame.specs.Frame.{Inputs, frame, unwound}
+use Rattle.frame.specs.declared.Unwound.{Unwound}
+use Rattle.walking.specs.Walk as Walking
+use Rattle.walking.specs.declared.Frame.{Frame}
+use Rattle.walking.specs.declared.WalkedAll.{WalkedAll}
+use Rattle.report.specs.Listing.{listing}
+use Rattle.caller_text.specs.CallerText.{callerText}
+
+-- "finding the record for a pc; one frame; a walk; an xdata record's byte size; writing packed words and their code bytes; a program
+-- over a report file"
+pub record Reader : Type 0 where
+  pub find : (image : ℕ) → (pdata : List ℕ) → (pc : ℕ) → Found
+  pub unwind : Inputs → Regs → Unwound
+  pub walk : Inputs → Regs → (lent : List Frame) → WalkedAll
+  pub size : (xdata : Lent) → (at : ℕ) → SizeOf
+  pub word : Packed → WordOf
+  pub codes : (word : ℕ) → CodesOf
+  pub list : (file : List ℕ) → List ℕ
+  pub show : (file : List ℕ) → List ℕ
+
+-- ours: the definitions, which the code meets by its contracts (proofs/Contracts.antt)
+abbrev pub ours : Reader
+ours = record {
+  find = λ image pdata pc. found (find image pdata pc);
+  unwind = λ t g. unwound g (frame t g);
+  walk = λ t g l. Walking.walkedAll l (Walking.walk t (length l) g);
+  size = λ x at. sizeAnswer (xdataSize x at);
+  word = λ p. wordAnswer (writeWord p);
+  codes = λ w. codesAnswer (writeCodes w);
+  list = listing;
+  show = callerText;
+}

@@ -1,0 +1,42 @@
+-- Document 01's shams: readers that look like one, and that a demand must break (proofs/Refuted.antt).
+use Prim.Native.Nat.{ℕ, _<_}
+use mathlib.Core.Path.{_≡_}
+use mathlib.Core.List.{List}
+use lib.ListN.{getD}
+use Rattle.words.specs.declared.Refusal.{Refusal}
+use Rattle.unwinding.specs.Answer.{ok, refuse}
+use Rattle.machine.specs.declared.Regs.{Regs}
+use Rattle.frame.specs.Frame.{Inputs, unwound, leafOf}
+use Rattle.frame.specs.declared.Unwound.{Unwound}
+use Rattle.walking.specs.declared.Frame.{Frame}
+use Rattle.demands.specs.Reader.{Reader, ours}
+
+-- ours, but for one frame's answer
+abbrev pub with-unwind : (Inputs → Regs → Unwound) → Reader
+with-unwind u =
+    record { find = ours .find; unwind = u; walk = ours .walk; size = ours .size; word = ours .word; codes = ours .codes; list = ours .list; show = ours .show }
+
+-- "refusing everything"
+abbrev pub refusing : (Inputs → Regs → Refusal) → Reader
+refusing r = with-unwind (λ t g. unwound g (refuse (r t g)))
+
+-- "one fixed caller"
+abbrev pub fixed : Unwound → Reader
+fixed u = with-unwind (λ t g. u)
+
+-- "the registers back as a leaf"
+abbrev pub as-leaf : Reader
+as-leaf = with-unwind (λ t g. unwound g (ok (leafOf g)))
+
+-- "an invented code count", made of whatever else the answer has
+abbrev pub recounted : (count : Unwound → ℕ) → Unwound → Unwound
+recounted f u = record { verdict = u .verdict; regs = u .regs; place = u .place; handler = u .handler; codes = f u }
+
+abbrev pub inventing : ℕ → Reader
+inventing n = with-unwind (λ t g. recounted (λ u. n) (ours .unwind t g))
+
+-- "a walk that unwinds one frame and copies it": any reader whose walks list no other frame than the first
+abbrev pub Copying : Reader → Type 0
+Copying a =
+    (t : Inputs) (g : Regs) (l : List Frame) (none : Frame) (i : ℕ) → i < a .walk t g l .walked .frames
+    → getD (a .walk t g l .list) i none ≡ getD (a .walk t g l .list) 0 none

@@ -1,0 +1,102 @@
+// What the programs share: a report on standard input, or several, and the text that is asked for on standard output. What is read and
+// written, no contract can say; what the text of a report is, `make` says.
+ghost use mathlib.Core.Path.{_≡_};
+ghost use Prim.Native.Nat.{_≤_};
+ghost use lib.ListN.{length};
+ghost use Rattle.text.specs.Overlay.{overlay};
+ghost use Rattle.programs.specs.Texts.{textOf};
+use caller_text::show_caller;
+use libc::STDERR_FILENO;
+use libc::STDIN_FILENO;
+use libc::STDOUT_FILENO;
+use report::list_report;
+use streams::Item;
+
+// Which text: the listing of the walk, or the caller of the one frame.
+pub enum Text {
+    Listing,
+    Caller,
+}
+
+// The text of a report, at the start of the buffer.
+fn make(text: Text, file: &[u8], out: &mut [u8]) -> usize
+    ensures { λ r. ⌜ (r ≡ length (textOf text (now (file .entry)))) × (now (out .exit) ≡ overlay (now (out .entry)) 0 (textOf text (now (file .entry)))) ⌝ }
+    ensures { λ r. ⌜ r ≤ 8192 ⌝ }
+{
+    match text {
+        Text::Listing => list_report(file, out),
+        Text::Caller => show_caller(file, out),
+    }
+}
+
+// Says on standard error that a read failed, if one did.
+fn tell(failed: bool) {
+    if failed {
+        io::write_all(STDERR_FILENO, b"leafbobbin: a read failed\n");
+    }
+}
+
+// Writes to standard output, or says on standard error that it failed; whether all was taken.
+fn put(bytes: &[u8]) -> bool {
+    if io::write_all(STDOUT_FILENO, bytes) {
+        return true;
+    }
+    io::write_all(STDERR_FILENO, b"leafbobbin: a write failed\n");
+    false
+}
+
+// Writes the text of a report.
+fn answer(text: Text, file: &[u8]) -> bool {
+    let mut out = [0u8; 8192];
+    let n = make(text, file, &mut out);
+    put(&out[..n])
+}
+
+// The same with an empty line after it.
+fn answer_line(text: Text, file: &[u8]) -> bool {
+    if answer(text, file) {
+        put(b"\n")
+    } else {
+        false
+    }
+}
+
+// Answers the next report, and says whether to go on. One that did not come whole is answered as a report of no bytes, which is unfit.
+fn answer_next(text: Text, file: &mut [u8]) -> bool {
+    match streams::next(STDIN_FILENO, file) {
+        Item::Report(n) => answer_line(text, &file[..n]),
+        Item::TooLong => answer_line(text, b""),
+        Item::Cut(failed) => {
+            tell(failed);
+            answer_line(text, b"");
+            false
+        }
+        Item::End(failed) => {
+            tell(failed);
+            false
+        }
+    }
+}
+
+// One report, up to the input's end. One byte more than the largest is asked for, so that a longer one is seen to be longer.
+pub fn answer_one(text: Text) {
+    let mut file = [0u8; 65537];
+    let filled = streams::fill(STDIN_FILENO, &mut file);
+    let count = filled.count;
+    let failed = filled.failed;
+    tell(failed);
+    if failed {
+        answer(text, b"");
+    } else {
+        answer(text, &file[..count]);
+    }
+}
+
+// Reports one after the other. A proved loop has to end, and nothing says that the input does: it counts turns that no run uses up.
+pub fn answer_many(text: Text) {
+    let mut file = [0u8; 65536];
+    let mut turns = u64::MAX;
+    while 0 < turns && answer_next(text, &mut file) {
+        turns -= 1;
+    }
+}

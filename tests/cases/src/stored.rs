@@ -1,0 +1,69 @@
+//! The inputs that are stored with the programs (`crates/NAME/stdin`).
+
+use std::collections::BTreeSet;
+
+use peer::text::{caller, listing};
+
+use crate::draft::{Draft, LONGEST, PC, SP};
+use crate::examples::listing_draft;
+use crate::families::case;
+use crate::framing::{frame, framed};
+
+/// What `classes` can say: refusals 1-11 and 14 and the four places of the one frame; refusals 1-14, "end" and "full" of the walk.
+const CLASSES: usize = 12 + 4 + 14 + 2;
+
+/// Of the real reports, one in so many.
+const REAL_STEP: usize = 18;
+
+/// Document 01's report, at offset 4 of its first function: the whole prologue is undone.
+pub fn offset_four() -> Draft {
+    let mut draft = listing_draft();
+    draft.r[PC] += 2;
+    draft.r[SP] -= 8;
+    draft
+}
+
+/// Document 01's report, the first generated ones that are answered in a new way, one that is too long, a sample of the real ones, and one
+/// that is cut short.
+pub fn stream(seed: u64, cases: u64, real: &[u8]) -> Result<Vec<u8>, String> {
+    let mut out = Vec::new();
+    frame(&mut out, &listing_draft().bytes());
+    for report in every_class(seed, cases)? {
+        frame(&mut out, &report);
+    }
+    frame(&mut out, &vec![0; LONGEST + 1]);
+    for report in framed(real).step_by(REAL_STEP) {
+        frame(&mut out, report);
+    }
+    frame(&mut out, &listing_draft().bytes());
+    out.pop();
+    Ok(out)
+}
+
+fn every_class(seed: u64, cases: u64) -> Result<Vec<Vec<u8>>, String> {
+    let mut met = BTreeSet::new();
+    let mut reports = Vec::new();
+    for number in 0..cases {
+        let report = case(seed, number).report;
+        let before = met.len();
+        met.extend(classes(&report));
+        if met.len() > before {
+            reports.push(report);
+        }
+        if met.len() == CLASSES {
+            return Ok(reports);
+        }
+    }
+    Err(format!("only {} of {CLASSES} ways to answer are met", met.len()))
+}
+
+/// How a report is answered: the caller's place or refusal, the walk's stop or refusal.
+fn classes(report: &[u8]) -> [String; 2] {
+    let (caller, listing) = (caller(report), listing(report));
+    let first_line = caller.lines().next().unwrap_or_default();
+    let last_line = listing.lines().last().unwrap_or_default();
+    let words = |line: &str, count| line.split(' ').take(count).collect::<Vec<_>>().join(" ");
+    let caller = if first_line.starts_with("refused") { 2 } else { 3 };
+    let walk = if last_line.starts_with("refused") { 2 } else { 1 };
+    [format!("caller: {}", words(first_line, caller)), format!("walk: {}", words(last_line, walk))]
+}
