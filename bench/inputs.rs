@@ -116,12 +116,12 @@ fn mixed(rng: &mut Rng) -> Module {
     module
 }
 
-/// A function with so many epilogues of these codes, one every 32 bytes after its first 64.
-fn with_scopes(count: u32, codes: &[u8], words: u32) -> Module {
+/// A function with so many epilogues of these codes, one every 32 bytes after its first 64; their indices take turns below a bound.
+fn with_scopes(count: u32, codes: &[u8], indices: u32, words: u32) -> Module {
     let mut module = Module::new();
     let span = 64 + 32 * count;
     put(&mut module.xdata, &[span / 2, count | (codes.len() as u32 / 4) << 16]);
-    let scopes: Vec<u32> = (2..count + 2).map(|number| number * 16 | 14 << 20).collect();
+    let scopes: Vec<u32> = (2..count + 2).map(|number| number * 16 | 14 << 20 | (number % indices) << 24).collect();
     put(&mut module.xdata, &scopes);
     module.xdata.extend(codes);
     module.functions.push(Function { start: 0x1000, body: 62, words });
@@ -158,9 +158,10 @@ fn main() -> io::Result<()> {
     }
     // One frame in the body of a function with so many epilogues: add sp, pop {r4, lr}.
     for scopes in SCOPES {
-        write(format!("scopes-{scopes}"), with_scopes(scopes, &[2, 0xd4, 0xff, 0], 3).report(rng, &[0]))?;
+        write(format!("scopes-{scopes}"), with_scopes(scopes, &[2, 0xd4, 0xff, 0], 1, 3).report(rng, &[0]))?;
     }
-    // As much work as a report that is not refused can ask for: 256 frames, each in a function as long as can be, filled with epilogues.
+    // About as much work as a report that is not refused can ask for: 256 frames, each in a function as long as can be, filled with
+    // epilogues of two lists in turn.
     let codes = [[0xfb; 15].as_slice(), &[0xed, 0, 0xff, 0, 0]].concat();
-    write("heaviest".to_string(), with_scopes(16_000, &codes, 0).report(rng, &[0; 256]))
+    write("heaviest".to_string(), with_scopes(16_000, &codes, 2, 0).report(rng, &[0; 256]))
 }
