@@ -1,5 +1,4 @@
-// The machine that codes act on: registers by value and the lent stack. It knows no tables. No public function asks anything of its
-// caller.
+// The machine that codes act on: registers and the lent stack. It knows no tables. No public function asks anything of its caller.
 use codes::Code;
 use codes::Taken;
 use codes::Undo;
@@ -14,7 +13,7 @@ ghost use lib.Dec.{eqb};
 ghost use lib.ListN.{length, getD, set};
 ghost use Rattle.words.specs.Bits.{bit};
 ghost use Rattle.words.specs.Lent.{lent};
-ghost use Rattle.unwinding.specs.Answer.{if_then_else_};
+ghost use Rattle.unwinding.specs.Answer.{refuse, if_then_else_};
 ghost use Rattle.codes.specs.Code.{scan};
 ghost use Rattle.machine.specs.Step.{stands as standsOf, load as loadOf, pop as popOf, vpop as vpopOf, effect as effectOf, step as stepOf};
 ghost use Rattle.machine.specs.Answers.{loaded, loadedTwo, regs, came, Counted, stepped};
@@ -41,7 +40,8 @@ enum LoadedTwo {
     Refused(Refusal),
 }
 
-// Codes are undone in place: r0-r12 and d0-d31 in lists that are lent, and SP and LR by value. After a refusal none of them counts.
+// Codes are undone in place, since the registers are long: r0-r12 and d0-d31 in lists that are lent, SP and LR by value. After a refusal
+// none of them counts.
 
 // What undoing came to before SP is looked at, which may be past 2^32.
 struct Undone {
@@ -204,7 +204,7 @@ fn vpop(s: u8, e: u8, d: &mut [u64; 32], sp: u32, lr: u32, base: u32, stack: &[u
                 return Undone {
                     verdict: Verdict::Refused(why),
                     sp: at,
-                    lr: lr,
+                    lr,
                 };
             }
         }
@@ -213,7 +213,7 @@ fn vpop(s: u8, e: u8, d: &mut [u64; 32], sp: u32, lr: u32, base: u32, stack: &[u
     Undone {
         verdict: Verdict::Given,
         sp: at,
-        lr: lr,
+        lr,
     }
 }
 
@@ -221,16 +221,20 @@ fn vpop(s: u8, e: u8, d: &mut [u64; 32], sp: u32, lr: u32, base: u32, stack: &[u
 fn load_lr(n: StackWords, r: &mut [u32; 13], sp: u32, lr: u32, base: u32, stack: &[u8]) -> Undone
     ensures { λ u. ⌜ ((pc : ℕ) (d : List ℕ) → came (u .verdict) (regs (now (r .exit)) (u .sp) (u .lr) pc d) ≡ effectOf (lent base (now (stack .entry))) (Undo.LoadLr n) (regs (now (r .entry)) sp lr pc d)) ⌝ }
 {
-    match load(base, stack, sp as u64) {
-        Loaded::Word(w) => Undone {
-            verdict: Verdict::Given,
-            sp: (sp as u64) + words::stack_bytes(n),
-            lr: set_reg(r, lr, 14, w),
-        },
+    let at = sp as u64;
+    match load(base, stack, at) {
+        Loaded::Word(w) => {
+            let past = at + words::stack_bytes(n);
+            Undone {
+                verdict: Verdict::Given,
+                sp: past,
+                lr: set_reg(r, lr, 14, w),
+            }
+        }
         Loaded::Refused(why) => Undone {
             verdict: Verdict::Refused(why),
-            sp: sp as u64,
-            lr: lr,
+            sp: at,
+            lr,
         },
     }
 }
@@ -241,8 +245,8 @@ fn moved(sp: u64, lr: u32) -> Undone
 {
     Undone {
         verdict: Verdict::Given,
-        sp: sp,
-        lr: lr,
+        sp,
+        lr,
     }
 }
 
@@ -268,7 +272,7 @@ fn effect(
     }
 }
 
-// One code, after which SP must stand in the stack.
+// One code in place, after which SP must stand in the stack.
 fn undo_one(
     code: Code,
     r: &mut [u32; 13],
@@ -286,26 +290,27 @@ fn undo_one(
     if let Verdict::Refused(why) = verdict {
         return Stood {
             verdict: Verdict::Refused(why),
-            sp: sp,
-            lr: lr,
+            sp,
+            lr,
         };
     }
     let at = u.sp;
     if stands(base, stack, at) {
+        let stood = at as u32;
         return Stood {
             verdict: Verdict::Given,
-            sp: at as u32,
+            sp: stood,
             lr: u.lr,
         };
     }
     Stood {
         verdict: Verdict::Refused(Refusal::BadStack),
-        sp: sp,
-        lr: lr,
+        sp,
+        lr,
     }
 }
 
-// One code from the given registers.
+// One code, after which SP must stand in the stack. A refusal gives back the given registers.
 pub fn step(code: Code, g: Regs, base: u32, stack: &[u8]) -> Stepped
     ensures { λ r. ⌜ r ≡ stepped g (stepOf (lent base (now (stack .entry))) code g) ⌝ }
 {
@@ -322,16 +327,16 @@ pub fn step(code: Code, g: Regs, base: u32, stack: &[u8]) -> Stepped
     Stepped {
         verdict: Verdict::Given,
         regs: Regs {
-            r: r,
+            r,
             sp: u.sp,
             lr: u.lr,
             pc: g.pc,
-            d: d,
+            d,
         },
     }
 }
 
-// The codes from an index on: the caller after a code list is the caller after its first code and then after the rest.
+// Runs the codes from an index on, in place: the caller after a code list is the caller after its first code and then after the rest.
 fn run_on(
     codes: &[u8],
     at: CodeBytes,
@@ -351,36 +356,48 @@ fn run_on(
             if let Verdict::Refused(why) = verdict {
                 return Ended {
                     verdict: Verdict::Refused(why),
-                    sp: sp,
-                    lr: lr,
+                    sp,
+                    lr,
                     codes: 0,
                 };
             }
             let rest = run_on(codes, next, r, d, first.sp, first.lr, base, stack);
             let end = rest.verdict;
+            let count = rest.codes + 1;
             Ended {
                 verdict: end,
                 sp: rest.sp,
                 lr: rest.lr,
-                codes: rest.codes + 1,
+                codes: count,
             }
         }
         Taken::Last(_) => Ended {
             verdict: Verdict::Given,
-            sp: sp,
-            lr: lr,
+            sp,
+            lr,
             codes: 0,
         },
         Taken::Bad(i) => Ended {
             verdict: Verdict::Refused(Refusal::BadCodes(i)),
-            sp: sp,
-            lr: lr,
+            sp,
+            lr,
             codes: 0,
         },
     }
 }
 
-// Runs the codes from an index on, from the given registers.
+// No code run, by this refusal.
+fn stopped(g: Regs, why: Refusal) -> Ran
+    ensures { λ x. ⌜ x ≡ ran g 0 (refuse why) ⌝ }
+{
+    Ran {
+        verdict: Verdict::Refused(why),
+        regs: g,
+        codes: 0,
+    }
+}
+
+// Runs the codes from an index on. A refusal gives back the given registers and 0 codes.
 pub fn run(codes: &[u8], at: CodeBytes, g: Regs, base: u32, stack: &[u8]) -> Ran
     ensures { λ r. ⌜ r ≡ ran g (length (scan (now (codes .entry)) at .list)) (runAt (lent base (now (stack .entry))) (now (codes .entry)) at g) ⌝ }
 {
@@ -389,20 +406,16 @@ pub fn run(codes: &[u8], at: CodeBytes, g: Regs, base: u32, stack: &[u8]) -> Ran
     let u = run_on(codes, at, &mut r, &mut d, g.sp, g.lr, base, stack);
     let verdict = u.verdict;
     if let Verdict::Refused(why) = verdict {
-        return Ran {
-            verdict: Verdict::Refused(why),
-            regs: g,
-            codes: 0,
-        };
+        return stopped(g, why);
     }
     Ran {
         verdict: Verdict::Given,
         regs: Regs {
-            r: r,
+            r,
             sp: u.sp,
             lr: u.lr,
             pc: g.pc,
-            d: d,
+            d,
         },
         codes: u.codes,
     }

@@ -77,8 +77,8 @@ run-on-run-on-requires t c κs =
     let on = take-next (a .codes .now) (a .at .0) _ _ (taken t n) in
     (omega (arith, on), tt)
 
-run-on-add-t24 : (t : ℕ) → run-on-lts.Need-add-t24 (told t) (run-on-at t) run-on.Post
-run-on-add-t24 t c =
+run-on-add-count : (t : ℕ) → run-on-lts.Need-add-count (told t) (run-on-at t) run-on.Post
+run-on-add-count t c =
     let r = c .before in
     let n = r .before .before .before .before .before .before .before .before .before in
     let a = n .before .before .before .before .before .args in
@@ -135,7 +135,7 @@ pub +run-on-spec : {M : Type 1} → statement M
     (run-on-returns t)
     (run-on-enum-told t)
     (run-on-run-on-requires t)
-    (run-on-add-t24 t)
+    (run-on-add-count t)
     (run-on-enum-told-2 t)
     (run-on-enum-known-i t)
     (run-on-returns-2 t)

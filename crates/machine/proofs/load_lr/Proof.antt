@@ -17,8 +17,8 @@ enum-known-w c = search needs
 stack-bytes-requires : tie.Need-stack-bytes-requires
 stack-bytes-requires c κs = search needs
 
-add-t15 : tie.Need-add-t15
-add-t15 c = search needs
+add-past : tie.Need-add-past
+add-past c = search needs
 
 set-reg-requires : tie.Need-set-reg-requires
 set-reg-requires c κs = search needs
@@ -49,7 +49,7 @@ load-lr-spec =
     load-requires
     enum-known-w
     stack-bytes-requires
-    add-t15
+    add-past
     set-reg-requires
     enum-known-why
     returns

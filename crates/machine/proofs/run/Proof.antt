@@ -1,6 +1,6 @@
 -- `run` meets its contract: what the codes came to in place is given back, or the given registers where they were refused.
 -- Assumes nothing.
-use mathlib.Core.Path.{sym, ap}
+use mathlib.Core.Path.{sym, ap, _∙_}
 use Rattle.machine.specs.Run.{ran}
 use Rattle.machine.proofs.Answers.{came-refused, came-ran}
 use borrow.Author.Needs.{needs}
@@ -13,11 +13,15 @@ run-on-requires c κs = search needs
 enum-known-verdict : tie.Need-enum-known-verdict
 enum-known-verdict c = search needs
 
+stopped-requires : tie.Need-stopped-requires
+stopped-requires c κs = search needs
+
 returns : tie.Need-returns
 returns c =
-    let u = c .before .before .before in
+    let u = c .before .before .before .before in
     let a = u .before .before .before .before .before .before .before .args in
-    sym (ap (ran (a .g) _) (came-refused _ _ _ _ (u .run-on .ensures .0 (a .g .pc)) (c .before .verdict .given .1)))
+    c .stopped .ensures
+    ∙ sym (ap (ran (a .g) _) (came-refused _ _ _ _ (u .run-on .ensures .0 (a .g .pc)) (c .before .before .verdict .given .1)))
 
 enum-told : tie.Need-enum-told
 enum-told c = search needs
@@ -29,4 +33,4 @@ returns-2 c =
     came-ran (a .g) _ _ _ _ _ (u .run-on .ensures .0 (a .g .pc)) (u .run-on .ensures .1) (c .enum-told .given .1)
 
 pub run-spec : {M : Type 1} → statement M
-run-spec = tie.close (tie.spec run-on-requires enum-known-verdict returns enum-told returns-2)
+run-spec = tie.close (tie.spec run-on-requires enum-known-verdict stopped-requires returns enum-told returns-2)

@@ -45,8 +45,8 @@ enum-told c = search needs
 stands-requires : tie.Need-stands-requires
 stands-requires c κs = search needs
 
-cast-t18 : tie.Need-cast-t18
-cast-t18 c =
+cast-stood : tie.Need-cast-stood
+cast-stood c =
     let e = c .before .before .before .before in
     record { fits = stands-true (stack-of e) (e .effect .result .sp) (sym (c .before .stands .ensures) ∙ c .if1 .taken) .small }
 
@@ -67,6 +67,6 @@ undo-one-spec =
     returns
     enum-told
     stands-requires
-    cast-t18
+    cast-stood
     returns-2
     returns-3)
