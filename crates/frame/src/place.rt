@@ -17,13 +17,15 @@ use words::Refusal;
 use words::Verdict;
 ghost use mathlib.Core.Path.{_≡_};
 ghost use mathlib.Core.Bool.{_&&_, _||_};
-ghost use Prim.Native.Nat.{_+_, _-_, _*_, _/_, _^_, _≤_, _<_};
+ghost use Prim.Native.Nat.{ℕ, _+_, _-_, _*_, _/_, _^_, _≤_, _<_};
+ghost use mathlib.Core.List.{List};
 ghost use lib.ListN.{length};
 ghost use lib.Dec.{leb, ltb};
 ghost use Rattle.words.specs.Units.{codeBytes};
 ghost use Rattle.unwinding.specs.Answer.{if_then_else_};
 ghost use Rattle.unwinding.specs.Shape.{startOf};
-ghost use Rattle.codes.specs.Code.{codesAt};
+ghost use Rattle.codes.specs.Code.{codesAt, scan as scanOf};
+ghost use Rattle.codes.specs.Reading.{scanned};
 ghost use Rattle.codes.specs.Skip.{skipAt};
 ghost use Rattle.tables.specs.Plan.{scopesFrom};
 ghost use Rattle.frame.specs.Look.{wayRead, wayEnd, inLine, hitOf, see as seeOf, lookFrom, bySkip, inHit, inSeen, unseen as unseenOf, spotOf, noSpot as noSpotOf};
@@ -39,14 +41,25 @@ fn start_of(start: Start, span: u64, size: u64) -> u64
     }
 }
 
-// The epilogue of a scope.
-fn way_of(codes: &[u8], e: Scope, span: u64) -> WayOf
-    requires { ⌜ (length (now codes) ≤ 1020) × (span < 2 ^ 32) ⌝ }
-    ensures { λ r. ⌜ (r ≡ wayRead span e (codesAt (now (codes .entry)) (e .index))) × (wayEnd r < 2 ^ 33) ⌝ }
+// What a pass from an index finds. The last pass says it where that was from the same index, as epilogues often share their codes.
+fn rescan(codes: &[u8], index: CodeBytes, at: CodeBytes, last: Scanned) -> Scanned
+    requires { ⌜ last ≡ scanned (scanOf (now codes) at) ⌝ }
+    ensures { λ r. ⌜ r ≡ scanned (scanOf (now (codes .entry)) index) ⌝ }
+{
+    if index.0 == at.0 {
+        return last;
+    }
+    codes::scan(codes, index)
+}
+
+// The epilogue of a scope, by the pass over its codes.
+fn way_of(e: Scope, found: Scanned, span: u64) -> WayOf
+    requires { ⌜ ((s : List ℕ) × (length s ≤ 1020) × (found ≡ scanned (scanOf s (e .index)))) × (span < 2 ^ 32) ⌝ }
+    ensures { λ r. ⌜ ((s : List ℕ) → found ≡ scanned (scanOf s (e .index)) → r ≡ wayRead span e (codesAt s (e .index))) × (wayEnd r < 2 ^ 33) ⌝ }
 {
     let index = e.index;
     let start = e.start;
-    match codes::scan(codes, index) {
+    match found {
         Scanned::Ends(list, end) => {
             let size = 2 * (list + end);
             WayOf::Made(Way {
@@ -144,17 +157,23 @@ fn count_of(plan: Plan) -> usize
     plan.count
 }
 
-// The epilogues of a record in turn.
-fn look(codes: &[u8], plan: Plan, xdata: &[u8], o: u64, seen: Seen) -> Looked
-    requires { ⌜ length (now codes) ≤ 1020 ⌝ }
+// The epilogues of a record in turn, given what the pass from index 0 found. Codes are scanned anew only where the index changes.
+fn look(codes: &[u8], plan: Plan, xdata: &[u8], o: u64, seen: Seen, first: Scanned) -> Looked
+    requires { ⌜ (length (now codes) ≤ 1020) × (first ≡ scanned (scanOf (now codes) (codeBytes 0))) ⌝ }
     ensures { λ r. ⌜ r ≡ lookFrom (now (codes .entry)) (plan .span) o seen (scopesFrom (plan .scopes) (now (xdata .entry)) 0 (plan .count)) ⌝ }
 {
     let span = span_of(plan);
     let n = count_of(plan);
     let mut s = seen;
+    let mut last = first;
+    let mut at = CodeBytes(0);
     let mut k: usize = 0;
     while k < n {
-        let way = way_of(codes, xdata::scope(plan, xdata, k), span);
+        let e = xdata::scope(plan, xdata, k);
+        let index = e.index;
+        last = rescan(codes, index, at, last);
+        at = index;
+        let way = way_of(e, last, span);
         match way {
             WayOf::Made(w) => {
                 s = see(span, o, s, w);
@@ -277,11 +296,12 @@ pub fn spot(codes: &[u8], plan: Plan, xdata: &[u8], o: u64) -> Spot
     requires { ⌜ length (now codes) ≤ 1020 ⌝ }
     ensures { λ r. ⌜ r ≡ spotOf (now (codes .entry)) (plan .span) (plan .fragment) (scopesFrom (plan .scopes) (now (xdata .entry)) 0 (plan .count)) o ⌝ }
 {
-    match codes::scan(codes, CodeBytes(0)) {
+    let first = codes::scan(codes, CodeBytes(0));
+    match first {
         Scanned::Ends(list, _) => {
             let p = prologue_of(plan.fragment, list);
             let seen = unseen(span_of(plan), p);
-            in_seen(codes, p, o, look(codes, plan, xdata, o, seen))
+            in_seen(codes, p, o, look(codes, plan, xdata, o, seen, first))
         }
         Scanned::Refused(r) => no_spot(r),
     }

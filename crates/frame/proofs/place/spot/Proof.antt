@@ -21,15 +21,15 @@ use Rattle.frame.proofs.place.unseen.Reads as unseen-reads
 scan-requires : tie.Need-scan-requires
 scan-requires c κs = search needs
 
-enum-known-list : tie.Need-enum-known-list
-enum-known-list c = search needs
+enum-known-first : tie.Need-enum-known-first
+enum-known-first c = search needs
 
 prologue-of-requires : tie.Need-prologue-of-requires
 prologue-of-requires c κs =
     let k = c in
     let z = k .before .before .before .before .before .before in
     let a = z .args in
-    let q = sym (k .before .before .before .scan .ensures) ∙ k .before .list .given .1 in
+    let q = sym (k .before .before .before .scan .ensures) ∙ k .before .first .given .1 in
     omega (arith, scanned-ends (a .codes .now) (codeBytes 0) _ _ q .few, z .pre)
 
 span-of-requires : tie.Need-span-of-requires
@@ -39,13 +39,15 @@ unseen-requires : tie.Need-unseen-requires
 unseen-requires c κs = search needs
 
 look-requires : tie.Need-look-requires
-look-requires c κs = search needs
+look-requires c κs =
+    let k = c .before .before .before in
+    (k .before .before .before .before .before .before .pre, sym (k .before .first .given .1) ∙ k .before .before .before .scan .ensures)
 
 in-seen-requires : tie.Need-in-seen-requires
 in-seen-requires c κs = search needs
 
-enum-known-r : tie.Need-enum-known-r
-enum-known-r c = search needs
+enum-known-first-2 : tie.Need-enum-known-first-2
+enum-known-first-2 c = search needs
 
 no-spot-requires : tie.Need-no-spot-requires
 no-spot-requires c κs = search needs
@@ -55,7 +57,7 @@ returns c =
     let k = c .before .before .before .before .before in
     let z = k .before .before .before .before .before .before in
     let a = z .args in
-    let q = sym (k .before .before .before .scan .ensures) ∙ k .before .list .given .1 in
+    let q = sym (k .before .before .before .scan .ensures) ∙ k .before .first .given .1 in
     let u = c .before .before in
     let s = u .before in
     let p = s .before .prologue-of .result in
@@ -69,20 +71,20 @@ returns-2 c =
     let z = c .before .before .before .before .before .before .before in
     let a = z .args in
     c .no-spot .ensures
-    ∙ spot-bad (a .codes .now) (a .plan .span) (a .plan .fragment) (scopesFrom (a .plan .scopes) (a .xdata .now) 0 (a .plan .count)) (a .o) _ (sym (c .before .before .before .before .scan .ensures) ∙ c .before .before .r .given .1)
+    ∙ spot-bad (a .codes .now) (a .plan .span) (a .plan .fragment) (scopesFrom (a .plan .scopes) (a .xdata .now) 0 (a .plan .count)) (a .o) _ (sym (c .before .before .before .before .scan .ensures) ∙ c .before .before .first2 .given .1)
 
 pub spot-spec : {M : Type 1} → statement M
 spot-spec =
     tie.close
     (tie.spec
     scan-requires
-    enum-known-list
+    enum-known-first
     prologue-of-requires
     span-of-requires
     unseen-requires
     look-requires
     in-seen-requires
-    enum-known-r
+    enum-known-first-2
     no-spot-requires
     returns
     returns-2)

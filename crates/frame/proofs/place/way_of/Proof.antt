@@ -9,63 +9,54 @@ use Rattle.frame.proofs.Looking.{way-made, way-bad}
 use borrow.Author.Needs.{needs}
 use Rattle.frame.proofs.place.way_of.Statement.{statement}
 use Rattle.frame.proofs.place.way_of.Tie as tie
-use Rattle.codes.proofs.scan.Reads as scan-reads
 use Rattle.frame.proofs.place.start_of.Reads as start-of-reads
 
-scan-requires : tie.Need-scan-requires
-scan-requires c κs = search needs
-
-enum-known-list : tie.Need-enum-known-list
-enum-known-list c = search needs
+enum-known-found : tie.Need-enum-known-found
+enum-known-found c = search needs
 
 add-size : tie.Need-add-size
 add-size c =
-    let d = c in
-    let z = d .before .before .before .before .before .before in
-    let a = z .args in
-    let q = sym (d .before .before .before .scan .ensures) ∙ d .before .list .given .1 in
-    let m = scanned-ends (a .codes .now) (a .e .index) _ _ q in
-    omega (arith, m .few, z .pre .0)
+    let z = c .before .before .before .before in
+    let f = z .pre .0 in
+    let m = scanned-ends (f .0) (z .args .e .index) _ _ (sym (f .2) ∙ c .before .found .given .1) in
+    omega (arith, m .few, f .1)
 
 mul-size : tie.Need-mul-size
 mul-size c =
-    let d = c in
-    let z = d .before .before .before .before .before .before in
-    let a = z .args in
-    let q = sym (d .before .before .before .scan .ensures) ∙ d .before .list .given .1 in
-    let m = scanned-ends (a .codes .now) (a .e .index) _ _ q in
-    omega (arith, m .few, z .pre .0)
+    let z = c .before .before .before .before in
+    let f = z .pre .0 in
+    let m = scanned-ends (f .0) (z .args .e .index) _ _ (sym (f .2) ∙ c .before .found .given .1) in
+    omega (arith, m .few, f .1)
 
 start-of-requires : tie.Need-start-of-requires
 start-of-requires c κs = search needs
 
-enum-known-r : tie.Need-enum-known-r
-enum-known-r c = search needs
+enum-known-found-2 : tie.Need-enum-known-found-2
+enum-known-found-2 c = search needs
 
 returns : tie.Need-returns
 returns c =
     let d = c .before in
-    let z = d .before .before .before .before .before .before in
+    let z = d .before .before .before .before in
     let a = z .args in
-    let q = sym (d .before .before .before .scan .ensures) ∙ d .before .list .given .1 in
-    let m = scanned-ends (a .codes .now) (a .e .index) _ _ q in
-    (ap (λ k. Made (record { start = k; size = 2 * (d .before .list .given .0 .0 + d .before .list .given .0 .1 .0); condition = a .e .condition; index = a .e .index })) (c .start-of .ensures .0) ∙ way-made (a .codes .now) (a .span) (a .e) _ _ q, omega (arith, c .start-of .ensures .1, m .few, z .pre .0))
+    let f = z .pre .0 in
+    let g = d .before .found .given in
+    let m = scanned-ends (f .0) (a .e .index) _ _ (sym (f .2) ∙ g .1) in
+    (λ s h. ap (λ k. Made (record { start = k; size = 2 * (g .0 .0 + g .0 .1 .0); condition = a .e .condition; index = a .e .index })) (c .start-of .ensures .0) ∙ way-made s (a .span) (a .e) _ _ (sym h ∙ g .1), omega (arith, c .start-of .ensures .1, m .few, f .1))
 
 returns-2 : tie.Need-returns-2
 returns-2 c =
-    let z = c .before .before .before .before .before .before in
-    let q = sym (c .before .before .before .scan .ensures) ∙ c .before .r .given .1 in
-    (way-bad (z .args .codes .now) (z .args .span) (z .args .e) _ q, omega arith)
+    let a = c .before .before .before .before .args in
+    (λ s h. way-bad s (a .span) (a .e) _ (sym h ∙ c .before .found2 .given .1), omega arith)
 
 pub way-of-spec : {M : Type 1} → statement M
 way-of-spec =
     tie.close
     (tie.spec
-    scan-requires
-    enum-known-list
+    enum-known-found
     add-size
     mul-size
     start-of-requires
-    enum-known-r
+    enum-known-found-2
     returns
     returns-2)
