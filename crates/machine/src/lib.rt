@@ -336,6 +336,18 @@ pub fn step(code: Code, g: Regs, base: u32, stack: &[u8]) -> Stepped
     }
 }
 
+// Ended here, with no code run.
+fn end_here(verdict: Verdict, sp: u32, lr: u32) -> Ended
+    ensures { λ u. ⌜ u ≡ record { verdict = verdict; sp = sp; lr = lr; codes = 0 } ⌝ }
+{
+    Ended {
+        verdict,
+        sp,
+        lr,
+        codes: 0,
+    }
+}
+
 // Runs the codes from an index on, in place: the caller after a code list is the caller after its first code and then after the rest.
 fn run_on(
     codes: &[u8],
@@ -354,12 +366,7 @@ fn run_on(
             let first = undo_one(code, r, d, sp, lr, base, stack);
             let verdict = first.verdict;
             if let Verdict::Refused(why) = verdict {
-                return Ended {
-                    verdict: Verdict::Refused(why),
-                    sp,
-                    lr,
-                    codes: 0,
-                };
+                return end_here(Verdict::Refused(why), sp, lr);
             }
             let rest = run_on(codes, next, r, d, first.sp, first.lr, base, stack);
             let end = rest.verdict;
@@ -371,18 +378,8 @@ fn run_on(
                 codes: count,
             }
         }
-        Taken::Last(_) => Ended {
-            verdict: Verdict::Given,
-            sp,
-            lr,
-            codes: 0,
-        },
-        Taken::Bad(i) => Ended {
-            verdict: Verdict::Refused(Refusal::BadCodes(i)),
-            sp,
-            lr,
-            codes: 0,
-        },
+        Taken::Last(_) => end_here(Verdict::Given, sp, lr),
+        Taken::Bad(i) => end_here(Verdict::Refused(Refusal::BadCodes(i)), sp, lr),
     }
 }
 

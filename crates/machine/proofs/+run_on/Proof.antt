@@ -20,6 +20,7 @@ use Rattle.machine.proofs.run_on.Kinds as run-on-kinds
 use Rattle.machine.proofs.+run_on.Lts-run_on as run-on-lts
 use Rattle.codes.proofs.take_at.Reads as take-at-reads
 use Rattle.machine.proofs.undo_one.Reads as undo-one-reads
+use Rattle.machine.proofs.end_here.Reads as end-here-reads
 use Rattle.machine.proofs.+run_on.{statement}
 use Rattle.machine.proofs.+run_on.Tie.{close}
 
@@ -34,7 +35,7 @@ run-on-below t = and 4 run-on-kinds.ps (falls 4 run-on-kinds.ps _<_ μ-run-on t)
 
 -- what is known of the callees
 abbrev told : ℕ → run-on-lts.Claims
-told t = (take-at-reads.Asked, take-at-reads.Learnt, undo-one-reads.Asked, undo-one-reads.Learnt, run-on-below t, run-on.Post)
+told t = (take-at-reads.Asked, take-at-reads.Learnt, undo-one-reads.Asked, undo-one-reads.Learnt, end-here-reads.Asked, end-here-reads.Learnt, run-on-below t, run-on.Post)
 
 -- the code that was taken
 taken :
@@ -55,16 +56,22 @@ run-on-undo-one-requires t c κs = search needs
 run-on-enum-known-verdict : (t : ℕ) → run-on-lts.Need-enum-known-verdict (told t) (run-on-at t) run-on.Post
 run-on-enum-known-verdict t c = search needs
 
+run-on-end-here-requires : (t : ℕ) → run-on-lts.Need-end-here-requires (told t) (run-on-at t) run-on.Post
+run-on-end-here-requires t c κs = search needs
+
 run-on-returns : (t : ℕ) → run-on-lts.Need-returns (told t) (run-on-at t) run-on.Post
 run-on-returns t c =
-    let f = c .before .before .before in
+    let b = c .before in
+    let u = c .end-here .ensures in
+    let f = b .before .before .before in
     let n = f .before .before .before .before in
     let a = n .before .before .before .before .before .args in
     let k = lent (a .base) (a .stack .now) in (
-      λ pc. sym
+      λ pc. rw u
+          (sym
           (first-refused k (a .codes .now) (a .at) (regs (a .r .now) (a .sp) (a .lr) pc (a .d .now)) _ _ _ (taken t n)
-          (came-refused _ _ _ _ (f .undo-one .ensures pc) (c .before .verdict .given .1))),
-      record { most = omega arith; all = λ e. clash e },
+          (came-refused _ _ _ _ (f .undo-one .ensures pc) (b .before .verdict .given .1)))),
+      rw u (record { most = omega arith; all = λ e. clash e }),
     )
 
 run-on-enum-told : (t : ℕ) → run-on-lts.Need-enum-told (told t) (run-on-at t) run-on.Post
@@ -87,8 +94,14 @@ run-on-add-count t c =
 run-on-enum-told-2 : (t : ℕ) → run-on-lts.Need-enum-told-2 (told t) (run-on-at t) run-on.Post
 run-on-enum-told-2 t c = search needs
 
+run-on-end-here-requires-2 : (t : ℕ) → run-on-lts.Need-end-here-requires-2 (told t) (run-on-at t) run-on.Post
+run-on-end-here-requires-2 t c κs = search needs
+
 run-on-enum-known-i : (t : ℕ) → run-on-lts.Need-enum-known-i (told t) (run-on-at t) run-on.Post
 run-on-enum-known-i t c = search needs
+
+run-on-end-here-requires-3 : (t : ℕ) → run-on-lts.Need-end-here-requires-3 (told t) (run-on-at t) run-on.Post
+run-on-end-here-requires-3 t c κs = search needs
 
 run-on-returns-2 : (t : ℕ) → run-on-lts.Need-returns-2 (told t) (run-on-at t) run-on.Post
 run-on-returns-2 t c =
@@ -107,21 +120,26 @@ run-on-returns-2 t c =
 
 run-on-returns-3 : (t : ℕ) → run-on-lts.Need-returns-3 (told t) (run-on-at t) run-on.Post
 run-on-returns-3 t c =
-    let e = c .before .before in
+    let b = c .before in
+    let u = c .end-here2 .ensures in
+    let e = b .before .before in
     let a = e .before .before .before .args in
-    let last = sym (e .take-at .ensures) ∙ c .enum-told2 .given .1 in (
-      λ pc. sym (run-last (lent (a .base) (a .stack .now)) (a .codes .now) (a .at) (regs (a .r .now) (a .sp) (a .lr) pc (a .d .now)) _ last),
-      record { most = omega arith; all = λ _. sym (count-last (a .codes .now) (a .at) _ last) },
+    let last = sym (e .take-at .ensures) ∙ b .enum-told2 .given .1 in (
+      λ pc. rw u (sym (run-last (lent (a .base) (a .stack .now)) (a .codes .now) (a .at) (regs (a .r .now) (a .sp) (a .lr) pc (a .d .now)) _ last)),
+      rw u (record { most = omega arith; all = λ _. sym (count-last (a .codes .now) (a .at) _ last) }),
     )
 
 run-on-returns-4 : (t : ℕ) → run-on-lts.Need-returns-4 (told t) (run-on-at t) run-on.Post
 run-on-returns-4 t c =
-    let e = c .before .before .before in
+    let b = c .before in
+    let u = c .end-here3 .ensures in
+    let e = b .before .before .before in
     let a = e .before .before .before .args in (
-      λ pc. sym
+      λ pc. rw u
+          (sym
           (run-bad (lent (a .base) (a .stack .now)) (a .codes .now) (a .at) (regs (a .r .now) (a .sp) (a .lr) pc (a .d .now)) _
-          (sym (e .take-at .ensures) ∙ c .before .i .given .1)),
-      record { most = omega arith; all = λ v. clash v },
+          (sym (e .take-at .ensures) ∙ b .before .i .given .1))),
+      rw u (record { most = omega arith; all = λ v. clash v }),
     )
 
 pub +run-on-spec : {M : Type 1} → statement M
@@ -132,12 +150,15 @@ pub +run-on-spec : {M : Type 1} → statement M
     (run-on-enum-known-code t)
     (run-on-undo-one-requires t)
     (run-on-enum-known-verdict t)
+    (run-on-end-here-requires t)
     (run-on-returns t)
     (run-on-enum-told t)
     (run-on-run-on-requires t)
     (run-on-add-count t)
     (run-on-enum-told-2 t)
+    (run-on-end-here-requires-2 t)
     (run-on-enum-known-i t)
+    (run-on-end-here-requires-3 t)
     (run-on-returns-2 t)
     (run-on-returns-3 t)
     (run-on-returns-4 t)
