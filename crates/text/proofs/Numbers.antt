@@ -1,11 +1,12 @@
 -- Laws of numbers as text.
 -- Assumes nothing.
 use Prim.Native.Nat.{ℕ, zero, suc, _+_, _-_, _*_, _/_, _%_, _^_, _≤_, _<_}
-use mathlib.Core.Path.{_≡_, refl, sym, ap, _∙_}
+use mathlib.Core.Path.{_≡_, refl, sym, ap, ap₂, _∙_}
 use mathlib.Core.Bool.{Bool, true, false}
 use mathlib.Core.List.{List, [], _∷_, _++_, append-assoc, append-nil}
 use lib.ListN.{length}
 use lib.Dec.{ltb}
+use lib.Pow.{shr-shr}
 use borrow.Author.Tests.{lt-ltb, le-ltb, ltb-false}
 use native.Mathlib.Nat.{pow-suc}
 use native.Mathlib.Numerals.{sub-one}
@@ -27,6 +28,17 @@ pub digits-last : (b n v : ℕ) (d : ℕ) → 0 < n → d ≡ digit (v % b) → 
 unfolding digits
 digits-last b zero v d h e = absurd (omega arith)
 digits-last b (suc n) v d h e = rw (sub-one, e) (digits-append b n (v / b) (digit (v % b) ∷ []))
+
+-- one hex digit more, of a value whose other digits stand above i places
+pub hex-more :
+    (n i v d : ℕ) → 0 < i → i ≤ n → d ≡ digit (v / 2 ^ (4 * (i - 1)) % 16)
+    → digits 16 (n - i) (v / 2 ^ (4 * i)) [] ++ (d ∷ []) ≡ digits 16 (n - (i - 1)) (v / 2 ^ (4 * (i - 1))) []
+hex-more n i v d p q e =
+    let w : ℕ = v / 2 ^ (4 * (i - 1)) in
+    let k : 4 * (i - 1) + 4 ≡ 4 * i = omega arith in
+    let u : w / 16 ≡ v / 2 ^ (4 * i) = shr-shr v (4 * (i - 1)) 4 ∙ ap (λ x. v / 2 ^ x) k in
+    let m : n - (i - 1) - 1 ≡ n - i = omega arith in
+    sym (digits-last 16 (n - (i - 1)) w d (omega arith) e ∙ ap₂ (λ a b. digits 16 a b [] ++ (d ∷ [])) m u)
 
 pub digits-length : (b n v : ℕ) (rest : List ℕ) → length (digits b n v rest) ≡ n + length rest
 unfolding digits

@@ -37,29 +37,43 @@ fn digit(d: u64) -> u8
     if d < 10 { 48 + d as u8 } else { 87 + d as u8 }
 }
 
-// The last n digits of a value in a base.
-fn put_digits(out: &mut [u8], at: usize, base: u64, n: usize, value: u64) -> usize
-    requires { ⌜ (1 < base) × (base ≤ 16) ⌝ }
-    ensures { λ r. ⌜ Laid (now (out .entry)) at (digits base n value []) r (now (out .exit)) ⌝ }
+// The last n decimal digits of a value.
+fn put_digits(out: &mut [u8], at: usize, n: usize, value: u64) -> usize
+    ensures { λ r. ⌜ Laid (now (out .entry)) at (digits 10 n value []) r (now (out .exit)) ⌝ }
 {
     if n == 0 {
         return at;
     }
-    let next = put_digits(out, at, base, n - 1, value / base);
-    put_byte(out, next, digit(value % base))
+    let next = put_digits(out, at, n - 1, value / 10);
+    put_byte(out, next, digit(value % 10))
+}
+
+// The last n hex digits of a value, the highest first.
+fn put_hex(out: &mut [u8], at: usize, n: usize, value: u64) -> usize
+    requires { ⌜ n ≤ 16 ⌝ }
+    ensures { λ r. ⌜ Laid (now (out .entry)) at (digits 16 n value []) r (now (out .exit)) ⌝ }
+{
+    let mut next = at;
+    let mut i = n;
+    while 0 < i {
+        i -= 1;
+        let high = value >> (4 * i);
+        next = put_byte(out, next, digit(high % 16));
+    }
+    next
 }
 
 // Eight and sixteen hex digits.
 pub fn put_hex8(out: &mut [u8], at: usize, value: u32) -> usize
     ensures { λ r. ⌜ Laid (now (out .entry)) at (hex8 value) r (now (out .exit)) ⌝ }
 {
-    put_digits(out, at, 16, 8, value as u64)
+    put_hex(out, at, 8, value as u64)
 }
 
 pub fn put_hex16(out: &mut [u8], at: usize, value: u64) -> usize
     ensures { λ r. ⌜ Laid (now (out .entry)) at (hex16 value) r (now (out .exit)) ⌝ }
 {
-    put_digits(out, at, 16, 16, value)
+    put_hex(out, at, 16, value)
 }
 
 // How many decimal digits a number below 10 ^ limit has.
@@ -81,7 +95,7 @@ pub fn put_decimal(out: &mut [u8], at: usize, value: u64) -> usize
     ensures { λ r. ⌜ Laid (now (out .entry)) at (decimal value) r (now (out .exit)) ⌝ }
 {
     let n = decimal_length(20, value);
-    put_digits(out, at, 10, n, value)
+    put_digits(out, at, n, value)
 }
 
 // A text and a number in decimal.

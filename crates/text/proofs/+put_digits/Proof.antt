@@ -1,8 +1,7 @@
--- The digits of value / base come first, and the last digit after them; the measure is the number of digits.
+-- The digits of value / 10 come first, and the last digit after them; the measure is the number of digits.
 -- Assumes nothing.
 use Prim.Native.Nat.{ℕ, _-_, _<_}
 use mathlib.Core.Path.{_≡_}
-use native.Mathlib.Nat.{mod-lt}
 use native.Mathlib.Omega.{arith}
 use borrow.Fn.Kinds.{In}
 use borrow.Fn.PlainCycle.{Measures, is, falls, and}
@@ -18,7 +17,7 @@ use Rattle.text.proofs.+put_digits.{statement}
 use Rattle.text.proofs.+put_digits.Tie.{close}
 
 abbrev μ-put-digits : Measures 1 put-digits-kinds.ps ℕ
-μ-put-digits κs a = a .1 .1 .1 .0
+μ-put-digits κs a = a .1 .1 .0
 
 abbrev put-digits-at : ℕ → In 1 put-digits-kinds.ps
 put-digits-at t =
@@ -39,20 +38,11 @@ put-digits-returns t c = let e : c .before .before .args .n ≡ 0 = c .if1 .take
 put-digits-sub-put-digits : (t : ℕ) → put-digits-lts.Need-sub-put-digits (told t) (put-digits-at t) put-digits.Post
 put-digits-sub-put-digits t c = omega arith
 
-put-digits-div-put-digits : (t : ℕ) → put-digits-lts.Need-div-put-digits (told t) (put-digits-at t) put-digits.Post
-put-digits-div-put-digits t c = omega arith
-
 put-digits-put-digits-requires : (t : ℕ) → put-digits-lts.Need-put-digits-requires (told t) (put-digits-at t) put-digits.Post
 put-digits-put-digits-requires t c κs = omega arith
 
-put-digits-rem-digit : (t : ℕ) → put-digits-lts.Need-rem-digit (told t) (put-digits-at t) put-digits.Post
-put-digits-rem-digit t c = omega arith
-
 put-digits-digit-requires : (t : ℕ) → put-digits-lts.Need-digit-requires (told t) (put-digits-at t) put-digits.Post
-put-digits-digit-requires t c κs =
-    let a = c .before .before .before .before .before .before .before .args in
-    let h : 0 < a .base = omega arith in
-    omega (arith, mod-lt (a .value) h)
+put-digits-digit-requires t c κs = omega arith
 
 put-digits-put-byte-requires : (t : ℕ) → put-digits-lts.Need-put-byte-requires (told t) (put-digits-at t) put-digits.Post
 put-digits-put-byte-requires t c κs = omega arith
@@ -64,9 +54,9 @@ put-digits-returns-2 : (t : ℕ) → put-digits-lts.Need-returns-2 (told t) (put
 put-digits-returns-2 t c =
     let a = c .before .before .before .before .before .before .before .before .before .before .before .args in
     let p : 0 < a .n = omega arith in
-    rw (digits-last (a .base) (a .n) (a .value) (c .before .before .before .digit .result) p (c .before .before .before .digit .ensures)) (joined (c .before .before .before .before .before .before .before .put-digits .ensures) (c .before .before .put-byte .ensures))
+    rw (digits-last 10 (a .n) (a .value) (c .before .before .before .digit .result) p (c .before .before .before .digit .ensures)) (joined (c .before .before .before .before .before .before .before .put-digits .ensures) (c .before .before .put-byte .ensures))
 
 pub +put-digits-spec : {M : Type 1} → statement M
 +put-digits-spec =
     close μ-put-digits
-    (λ t. put-digits-lts.spec (told t) (put-digits-at t) put-digits.Post (put-digits-returns t) (put-digits-sub-put-digits t) (put-digits-div-put-digits t) (put-digits-put-digits-requires t) (put-digits-rem-digit t) (put-digits-digit-requires t) (put-digits-put-byte-requires t) (put-digits-same-length t) (put-digits-returns-2 t))
+    (λ t. put-digits-lts.spec (told t) (put-digits-at t) put-digits.Post (put-digits-returns t) (put-digits-sub-put-digits t) (put-digits-put-digits-requires t) (put-digits-digit-requires t) (put-digits-put-byte-requires t) (put-digits-same-length t) (put-digits-returns-2 t))
