@@ -1,12 +1,12 @@
 -- The three demands, of our reader.
 -- Assumes nothing.
-use Prim.Native.Nat.{ℕ, zero, suc, _≤_}
+use Prim.Native.Nat.{ℕ, zero, suc, _+_, _≤_}
 use mathlib.Core.Path.{_≡_, refl, sym, ap, _∙_, subst}
 use mathlib.Core.Logic.{_≢_}
-use mathlib.Core.List.{List, [], _∷_, _++_}
+use mathlib.Core.List.{List, [], _∷_, _++_, append-assoc}
 use mathlib.Core.Bool.{Bool, true, false}
-use lib.ListN.{length, drop, length-append, length-drop}
-use lib.Seq.{drop-append-seam}
+use lib.ListN.{length, take, drop, length-append, length-drop}
+use lib.Seq.{take-append-seam, drop-append-seam}
 use lib.Dec.{eqb}
 use native.Mathlib.Omega.{arith}
 use Rattle.words.specs.Bits.{even}
@@ -27,10 +27,10 @@ use Rattle.caller_text.proofs.Sizes.{caller-fits}
 use Rattle.forward.specs.Demand.{Demand3}
 use Rattle.forward.proofs.Framed as Framed
 use Rattle.demands.specs.Reader.{ours}
-use Rattle.demands.specs.Demand1.{Untouched, Demand1}
+use Rattle.demands.specs.Demand1.{Untouched, Agree, Demand1}
 use Rattle.demands.specs.Demand2.{Demand2}
 use Rattle.demands.proofs.Staying.{Stays}
-use Rattle.demands.proofs.Wider.{stays-frame, stays-walk, stays-size}
+use Rattle.demands.proofs.Wider.{Begins, stays-frame, stays-walk, stays-listed, stays-size}
 use Rattle.demands.proofs.Numbers.{UpTo, numbered, up-first, up-next}
 
 -- ---- an answer by its verdict
@@ -70,6 +70,17 @@ untouched l w h = record {
   rest = drop-append-seam (w .frames) (drop (length (w .frames)) l);
 }
 
+agree : (l : List Frame) (w w′ : Trail) → Begins (w .frames) (w′ .frames) → Agree (length (w .frames)) (walkedAll l w) (walkedAll l w′)
+agree l w w′ b =
+    let n : ℕ = length (w .frames) in
+    let k : length (w′ .frames) ≡ n + length (b .rest) = ap length (b .whole) ∙ length-append (w .frames) (b .rest) in
+    let tail : List Frame = drop (length (w′ .frames)) l in (
+      omega (arith, k),
+      ap (λ (fs : List Frame). take n (fs ++ tail)) (b .whole) ∙ ap (take n) (append-assoc (w .frames) (b .rest) tail)
+          ∙ take-append-seam (w .frames) (b .rest ++ tail)
+          ∙ sym (take-append-seam (w .frames) (drop n l)),
+    )
+
 -- ---- the demands
 pub demand1 : Demand1 ours
 demand1 = record {
@@ -79,6 +90,7 @@ demand1 = record {
   untouched = λ t g l. untouched l (walk t (length l) g) (walk-room t (length l) true g);
   frame-stays = λ t t′ g w e. answer-stays g (frame t g) (frame t′ g) (stays-frame t t′ w true g) e;
   walk-stays = λ t t′ g l w h. ap (walkedAll l) (stays-walk t t′ w (length l) true g h);
+  listed-stay = λ t t′ g l w. agree l (walk t (length l) g) (walk t′ (length l) g) (stays-listed t t′ w (length l) true g);
   size-stays = λ x x′ at m f e. size-answer-stays (xdataSize x at) (xdataSize x′ at) (stays-size x x′ m at f) e;
   list-fits = listing-fits;
   show-fits = caller-fits;

@@ -2,6 +2,7 @@
 -- Assumes nothing.
 use Prim.Native.Nat.{ℕ, _≤_, _<_}
 use mathlib.Core.Path.{_≡_, refl, sym, ap, _∙_, subst}
+use mathlib.Core.Logic.{_≢_}
 use mathlib.Core.List.{List, [], _∷_}
 use lib.ListN.{getD, replicate}
 use native.Mathlib.Omega.{arith}
@@ -23,7 +24,7 @@ use Rattle.forward.specs.State.{Whole}
 use Rattle.forward.specs.Demand.{Demand3, Finds}
 use Rattle.forward.proofs.Memory.{outside-same}
 use Rattle.forward.proofs.Examples as Run
-use Rattle.demands.specs.Reader.{Reader}
+use Rattle.demands.specs.Reader.{Reader, ours}
 use Rattle.demands.specs.Demand2.{Demand2}
 use Rattle.demands.specs.Shams.{refusing, fixed, as-leaf, inventing, Copying}
 use Rattle.demands.proofs.Examples as Example
@@ -103,10 +104,6 @@ no-copying a h c =
     let z : _≡_ {A = ℕ} 0x00402010 0x00401002 = ap (λ (f : Frame). f .pc) (subst same q (c Example.inputs Example.given lent blank 1) (omega arith)) in
     omega arith
 
--- "an invented code count (it is that of the codes the definition runs)"
-no-inventing : (n : ℕ) → Demand2 (inventing n) → ⊥
-no-inventing n h =
-    let g = Example.regs 0x00401004 0x20000 in
-    let q2 : n ≡ 2 = ap (λ (u : Unwound). u .codes) (h .caller Example.inputs g ∙ ap (unwound g) offset-4) in
-    let q1 : n ≡ 1 = ap (λ (u : Unwound). u .codes) (h .caller Example.inputs Example.given ∙ ap (unwound Example.given) Example.packed-2-frame) in
-    omega (arith, q1, q2)
+-- "an invented code count (it is that of the codes the definition runs)": one that differs at any frame
+no-inventing : (count : Inputs → Regs → ℕ) (t : Inputs) (g : Regs) → count t g ≢ ours .unwind t g .codes → Demand2 (inventing count) → ⊥
+no-inventing count t g n h = n (ap (λ (u : Unwound). u .codes) (h .caller t g))

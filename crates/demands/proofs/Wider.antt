@@ -38,6 +38,7 @@ use Rattle.tables.proofs.Heads.{head-small}
 use Rattle.forward.proofs.Binding.{both}
 use Rattle.unwinding.specs.declared.Scope.{Scope}
 use Rattle.walking.specs.Walk.{nextFrame, listed, walkFrom}
+use Rattle.walking.specs.declared.Frame.{Frame}
 use Rattle.walking.specs.declared.Stop.the-variants as Stop
 use Rattle.frame.specs.Frame.{Inputs, Caller, fitStack, returned, uncovered, within, byRecord, afterFind, frameOf}
 use Rattle.demands.specs.Demand1.{More, Wider}
@@ -249,6 +250,11 @@ module _ (t t′ : Inputs) (w : Wider t t′) (first : Bool) where
   unfolding nextFrame
   stays-next g = stays-bind (frameOf first t g) (frameOf first t′ g) _ _ (stays-frame g) (λ c p a e. e)
 
+-- a list begins with another
+pub record Begins (xs ys : List Frame) : Type 0 where
+  pub rest : List Frame
+  pub whole : ys ≡ xs ++ rest
+
 -- ---- the walk that is not refused
 pub stays-walk : (t t′ : Inputs) → Wider t t′ → (n : ℕ) (first : Bool) (g : Regs) → ((r : Refusal) (pc : ℕ) → walkFrom t n first g .stop ≢ Stop.Refused r pc) → walkFrom t′ n first g ≡ walkFrom t n first g
 unfolding walkFrom
@@ -266,4 +272,20 @@ stays-walk t t′ w (suc n) first g h = go (λ c. stays-walk t t′ w n false (c
 
     go : ((c : Caller) → ((r : Refusal) (pc : ℕ) → walkFrom t n false (c .regs) .stop ≢ Stop.Refused r pc) → Same n false (c .regs)) → (r : Res Caller) → nextFrame first t g ≡ r → Same (suc n) first g
     go below (refuse r) e = absurd (h r (even (g .pc)) (rw e refl))
+    go below (ok c) e = last below c e (eqb (c .regs .pc) 0) refl
+
+-- ---- the frames that any walk lists: those before it stops come first in the wider one
+pub stays-listed : (t t′ : Inputs) → Wider t t′ → (n : ℕ) (first : Bool) (g : Regs) → Begins (walkFrom t n first g .frames) (walkFrom t′ n first g .frames)
+unfolding walkFrom
+stays-listed t t′ w zero first g = record { rest = []; whole = refl }
+stays-listed t t′ w (suc n) first g = go (λ c. stays-listed t t′ w n false (c .regs)) (nextFrame first t g) refl
+  where
+    last : ((c : Caller) → Begins (walkFrom t n false (c .regs) .frames) (walkFrom t′ n false (c .regs) .frames)) → (c : Caller) → nextFrame first t g ≡ ok c → (b : Bool) → eqb (c .regs .pc) 0 ≡ b → Begins (walkFrom t (suc n) first g .frames) (walkFrom t′ (suc n) first g .frames)
+    last below c e true q = rw (stays-next t t′ w first g c e, e, q) (record { rest = []; whole = refl })
+    last below c e false q =
+        rw (stays-next t t′ w first g c e, e, q)
+        (record { rest = below c .rest; whole = ap (λ fs. record { pc = even (g .pc); sp = g .sp; place = c .place } ∷ fs) (below c .whole) })
+
+    go : ((c : Caller) → Begins (walkFrom t n false (c .regs) .frames) (walkFrom t′ n false (c .regs) .frames)) → (r : Res Caller) → nextFrame first t g ≡ r → Begins (walkFrom t (suc n) first g .frames) (walkFrom t′ (suc n) first g .frames)
+    go below (refuse r) e = rw e (record { rest = walkFrom t′ (suc n) first g .frames; whole = refl })
     go below (ok c) e = last below c e (eqb (c .regs .pc) 0) refl

@@ -6,7 +6,7 @@ use mathlib.Core.Path.{_≡_}
 use mathlib.Core.Logic.{_≢_}
 use mathlib.Core.List.{List, _++_}
 use mathlib.Core.Bool.{true, _&&_}
-use lib.ListN.{length, drop}
+use lib.ListN.{length, take, drop}
 use Rattle.words.specs.Lent.{Lent}
 use Rattle.words.specs.Refusals.{number}
 use Rattle.words.specs.declared.Refusal.{Refusal}
@@ -41,6 +41,10 @@ pub record Untouched (lent : List Frame) (w : WalkedAll) : Type 0 where
   pub long : length (w .list) ≡ length lent
   pub rest : drop (w .walked .frames) (w .list) ≡ drop (w .walked .frames) lent
 
+-- two walks list the same first n frames
+abbrev pub Agree : (n : ℕ) → WalkedAll → WalkedAll → Type 0
+Agree n w w′ = (n ≤ w′ .walked .frames) × (take n (w′ .list) ≡ take n (w .list))
+
 pub record Demand1 (a : Reader) : Type 0 where
   -- "Each refusal has a number": of one frame 1 to 11, of a walk 1 to 13
   pub frame-number : (t : Inputs) (g : Regs) (r : Refusal) → a .unwind t g .verdict ≡ Verdict.Refused r → (1 ≤ number r) × (number r ≤ 11)
@@ -52,6 +56,8 @@ pub record Demand1 (a : Reader) : Type 0 where
   -- it "never reads outside", and a word that it cannot read is "never taken for zero": an answer does not change with what lies beyond
   pub frame-stays : (t t′ : Inputs) (g : Regs) → Wider t t′ → a .unwind t g .verdict ≡ Verdict.Given → a .unwind t′ g ≡ a .unwind t g
   pub walk-stays : (t t′ : Inputs) (g : Regs) (l : List Frame) → Wider t t′ → ((r : Refusal) (pc : ℕ) → a .walk t g l .walked .stop ≢ Stop.Refused r pc) → a .walk t′ g l ≡ a .walk t g l
+  -- so too for the frames that a walk lists before it is refused
+  pub listed-stay : (t t′ : Inputs) (g : Regs) (l : List Frame) → Wider t t′ → Agree (a .walk t g l .walked .frames) (a .walk t g l) (a .walk t′ g l)
   pub size-stays : (x x′ : Lent) (at : ℕ) → More x x′ → fitXdata x′ ≡ true → a .size x at .verdict ≡ Verdict.Given → a .size x′ at ≡ a .size x at
   -- what the programs print fits their buffers
   pub list-fits : (file : List ℕ) → length (a .list file) ≤ 8192

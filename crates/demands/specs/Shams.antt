@@ -28,12 +28,12 @@ fixed u = with-unwind (λ t g. u)
 abbrev pub as-leaf : Reader
 as-leaf = with-unwind (λ t g. unwound g (ok (leafOf g)))
 
--- "an invented code count", made of whatever else the answer has
-abbrev pub recounted : (count : Unwound → ℕ) → Unwound → Unwound
-recounted f u = record { verdict = u .verdict; regs = u .regs; place = u .place; handler = u .handler; codes = f u }
+-- "an invented code count", whatever it is made of
+abbrev pub recounted : ℕ → Unwound → Unwound
+recounted n u = record { verdict = u .verdict; regs = u .regs; place = u .place; handler = u .handler; codes = n }
 
-abbrev pub inventing : ℕ → Reader
-inventing n = with-unwind (λ t g. recounted (λ u. n) (ours .unwind t g))
+abbrev pub inventing : (Inputs → Regs → ℕ) → Reader
+inventing count = with-unwind (λ t g. recounted (count t g) (ours .unwind t g))
 
 -- "a walk that unwinds one frame and copies it": any reader whose walks list no other frame than the first
 abbrev pub Copying : Reader → Type 0
