@@ -35,7 +35,7 @@ use Rattle.tables.specs.Pdata.{find}
 use Rattle.tables.specs.Xdata.{X, E, fitXdata, scopeCount, codesOffset, handlerOffset, recordBytes, shortHead, longHead, headAt, xdataSize}
 use Rattle.tables.specs.Record.{scopeOf, scopesAt, fullOf, fullShape, packedShape, shapeOf}
 use Rattle.tables.proofs.Heads.{head-small}
-use Rattle.forward.proofs.Binding.{both}
+use Rattle.words.proofs.Laws.{both}
 use Rattle.unwinding.specs.declared.Scope.{Scope}
 use Rattle.walking.specs.Walk.{nextFrame, listed, walkFrom}
 use Rattle.walking.specs.declared.Frame.{Frame}

@@ -14,7 +14,3 @@ bind-ok (refuse r) f b h = absurd (let z : _≡_ {A = ℕ} 0 1 = cc in omega ari
 pub need-ok : {B : Type 0} (t : Bool) (r : Refusal) (y : Res B) (b : B) → (need t r >> y) ≡ ok b → (t ≡ true) × (y ≡ ok b)
 need-ok true r y b h = (refl, h)
 need-ok false r y b h = absurd (let z : _≡_ {A = ℕ} 0 1 = cc in omega arith)
-
-pub both : (a b : Bool) → (a && b) ≡ true → (a ≡ true) × (b ≡ true)
-both true b h = (refl, h)
-both false b h = absurd (let z : _≡_ {A = ℕ} 0 1 = cc in omega arith)

@@ -38,7 +38,7 @@ use Rattle.forward.specs.Exits.{Of, here, later, SavesD, Fit, full, pack
 use Rattle.forward.specs.Stop.{codesOf}
 use Rattle.forward.specs.Demand.{lending, Asked, Finds, Demand3}
 use Rattle.forward.proofs.Back.{Near}
-use Rattle.forward.proofs.Binding.{both}
+use Rattle.words.proofs.Laws.{both}
 use Rattle.forward.proofs.Viewed.{Viewed, viewed, read-of}
 use Rattle.forward.proofs.Ready.{Second, ready}
 use Rattle.forward.proofs.Within.{finds-in}

@@ -23,7 +23,7 @@ use Rattle.codes.proofs.Scanning.{scan-at}
 use Rattle.tables.specs.Packed.{fields, folded, amount, PF, EF}
 use Rattle.tables.specs.PackedCodes.{when, integers, upCode, vpopCode, upTo, dForm, popSized, popCode, low, firstList, leave, secondList, written}
 use Rattle.tables.specs.declared.Packed.{Packed}
-use Rattle.forward.proofs.Binding.{both}
+use Rattle.words.proofs.Laws.{both}
 use Rattle.forward.proofs.Reading.{Reads, reads-append, reads-when, ends, upOf, reads-up, reads-vpop, reads-nop, reads-home, reads-return, popOf, reads-pop}
 
 -- the fields of a word have their bits

@@ -25,7 +25,7 @@ use Rattle.forward.proofs.Ops.{Op, skip, load, Seen, Need}
 use Rattle.forward.proofs.Back.{St, Inv}
 use Rattle.forward.proofs.Flat.{loads, flat, flat-append, loads-append, lasting-range}
 use Rattle.forward.proofs.Fold as Fold
-use Rattle.forward.proofs.Binding.{both}
+use Rattle.words.proofs.Laws.{both}
 use Rattle.forward.proofs.Scanned.{fourth}
 use Rattle.forward.proofs.Ready.{Second}
 use Rattle.forward.proofs.Reading.{upOf, popOf}

@@ -22,7 +22,7 @@ use Rattle.codes.specs.Code.{size}
 use Rattle.codes.specs.declared.Code.{Code}
 use Rattle.forward.specs.Exits.{Of, here, later, InNone}
 use Rattle.forward.specs.Stop.{codesOf}
-use Rattle.forward.proofs.Binding.{both}
+use Rattle.words.proofs.Laws.{both}
 use Rattle.forward.proofs.Scanned.{Positive}
 
 -- at the end of an instruction the codes of what is left are found

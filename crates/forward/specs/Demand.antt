@@ -50,8 +50,8 @@ pub record Asked (t : Inputs) (entry now : State) : Type 0 where
   pub undone : List Code
   pub stopped : Stopped own shape view entry offset now place undone
 
--- the answer: the frame is not refused; the caller's SP, pc, r4-r11 and d8-d15 are those at entry, "the return address compared with bit 0 cleared"; the place,
--- the handler and the count of the codes run
+-- the answer: the frame is not refused; the caller's SP, pc, r4-r11 and d8-d15 are those at entry, "the return address compared with bit
+-- 0 cleared"; the place, the handler and the count of the codes run
 pub record Answer (entry : State) (p : Place) (rva : ℕ) (undone : List Code) (c : Unwound) : Type 0 where
   pub given : c .verdict ≡ Given
   pub sp : c .regs .sp ≡ entry .regs .sp

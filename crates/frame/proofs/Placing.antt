@@ -8,6 +8,7 @@ use mathlib.Core.Option.{Option, none, some}
 use lib.Dec.{leb, ltb, eqb}
 use native.Mathlib.Omega.{arith}
 use borrow.Author.Tests.{ltb-true, ltb-false, leb-true, leb-false}
+use Rattle.words.proofs.Laws.{both}
 use Rattle.words.specs.Units.{codeBytes}
 use Rattle.words.specs.declared.CodeBytes.{CodeBytes}
 use Rattle.words.specs.declared.Place.{Place}
@@ -205,10 +206,6 @@ abbrev HitInside : List ℕ → ℕ → Hit → Type 0
 HitInside s o Miss = Unit {0}
 HitInside s o (In w) = Inside s o w
 
-two : (a b : Bool) → (a && b) ≡ true → (a ≡ true) × (b ≡ true)
-two true b h = (refl, h)
-two false b h = absurd (let z : _≡_ {A = ℕ} 0 1 = cc in omega arith)
-
 hit-inside : (s : List ℕ) (o : ℕ) (ws : List Way) → AllMade s ws → HitInside s o (hitAll o Miss ws)
 unfolding hitAll
 hit-inside s o [] m = tt
@@ -218,7 +215,7 @@ hit-inside s o (w ∷ ws) m = go (leb (w .start) o && ltb o (w .start + w .size)
         (x : Bool) → (leb (w .start) o && ltb o (w .start + w .size)) ≡ x → HitInside s o (hitAll o Miss ws)
         → HitInside s o (hitAll o (if x then In w else Miss) ws)
     go true e ih =
-        let t = two (leb (w .start) o) (ltb o (w .start + w .size)) e in
+        let t = both (leb (w .start) o) (ltb o (w .start + w .size)) e in
         subst (HitInside s o) (sym (hit-stays o w ws)) (record { made = m .0; low = leb-true _ _ (t .0); high = ltb-true _ _ (t .1) })
     go false e ih = ih
 

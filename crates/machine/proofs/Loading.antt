@@ -6,19 +6,16 @@ use mathlib.Core.Bool.{Bool, true, false, _&&_}
 use lib.Dec.{leb}
 use native.Mathlib.Omega.{arith}
 use borrow.Author.Tests.{leb-true}
+use Rattle.words.proofs.Laws.{both}
 use Rattle.words.specs.Lent.{Lent, end, holds, wordAt}
 use Rattle.words.specs.declared.Refusal.the-variants.{BadStack}
 use Rattle.unwinding.specs.Answer.{ok, need, _>>_}
 use Rattle.machine.specs.Step.{load}
-
-pub and-both : (a b : Bool) → (a && b) ≡ true → (a ≡ true) × (b ≡ true)
-and-both true b e = (refl, e)
-and-both false b e = (e, cc)
 
 pub load-inside : (k : Lent) (a w : ℕ) → load k a ≡ ok w → (k .base ≤ a) × (a + 4 ≤ end k)
 unfolding load
 load-inside k a w e = go (holds k a 4) refl e
   where
     go : (t : Bool) → holds k a 4 ≡ t → (need t BadStack >> ok (wordAt k a)) ≡ ok w → (k .base ≤ a) × (a + 4 ≤ end k)
-    go true p q = let b = and-both (leb (k .base) a) (leb (a + 4) (end k)) p in (leb-true _ _ (b .0), leb-true _ _ (b .1))
+    go true p q = let b = both (leb (k .base) a) (leb (a + 4) (end k)) p in (leb-true _ _ (b .0), leb-true _ _ (b .1))
     go false p q = absurd (let z : _≡_ {A = ℕ} 0 1 = cc in omega arith)

@@ -9,6 +9,7 @@ use lib.ListN.{length}
 use lib.Dec.{ltb, eqb}
 use native.Mathlib.Omega.{arith}
 use borrow.Author.Tests.{ltb-true, lt-ltb, le-ltb, le-leb, lt-leb}
+use Rattle.words.proofs.Laws.{both}
 use Rattle.words.specs.Bits.{even}
 use Rattle.words.specs.Little.{word32}
 use Rattle.words.specs.declared.Refusal.the-variants.{UnfitInput, PcBelowBase, StartsNotAscending}
@@ -51,10 +52,6 @@ ascending-stops s i n h q = ascending-next s i n h ∙ rw (le-ltb (startAt s i) 
 pub ascending-goes-on :
     (s : List ℕ) (i n : ℕ) → i + 1 < n → startAt s i < startAt s (i + 1) → ascendingFrom s i n ≡ ascendingFrom s (i + 1) n
 ascending-goes-on s i n h q = ascending-next s i n h ∙ rw (lt-ltb (startAt s i) (startAt s (i + 1)) q) refl
-
-both : (a b : Bool) → (a && b) ≡ true → (a ≡ true) × (b ≡ true)
-both true b h = (refl, h)
-both false b h = absurd (let z : _≡_ {A = ℕ} 0 1 = cc in omega arith)
 
 -- where the first of n records starts above an RVA, all do
 above :

@@ -2,7 +2,7 @@
 -- Assumes nothing.
 use Prim.Native.Nat.{ℕ, _+_, _-_, _*_, _≤_, _<_}
 use mathlib.Core.Path.{_≡_, refl, sym, ap, _∙_}
-use mathlib.Core.Bool.{Bool, true, false}
+use mathlib.Core.Bool.{Bool, true, false, _&&_}
 use mathlib.Core.List.{List}
 use lib.Dec.{leb}
 use lib.ListN.{length, getD}
@@ -30,3 +30,8 @@ holds-above b s a n h = rw (le-leb b a h) refl
 -- the byte at an equal place
 pub byte-same : (s : List ℕ) {i j : ℕ} → i ≡ j → getD s i 0 ≡ getD s j 0
 byte-same s h = ap (λ k. getD s k 0) h
+
+-- where two tests hold together, each does
+pub both : (a b : Bool) → (a && b) ≡ true → (a ≡ true) × (b ≡ true)
+both true b h = (refl, h)
+both false b h = absurd (let z : _≡_ {A = ℕ} 0 1 = cc in omega arith)
