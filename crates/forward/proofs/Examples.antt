@@ -38,12 +38,13 @@ use Rattle.forward.specs.Prologue.{Rests, next}
 use Rattle.forward.specs.Registers.{value}
 use Rattle.forward.specs.Stop.{codesOf, prologue}
 use Rattle.forward.specs.Saving.{RX}
+use Rattle.forward.specs.Body.{Wanted}
 use Rattle.forward.specs.Met.{FineRX, Fine, room, Reaches}
 use Rattle.forward.proofs.Ops.{upd-cases}
 use Rattle.forward.proofs.Writing.{whole-reg, value-reg}
 use Rattle.forward.proofs.Real.{set-real}
 use Rattle.forward.proofs.Executing.{after, runs, after-solid}
-use Rattle.forward.proofs.Reaching.{At, Roomy, reach, reach-prologue, reach-idle, reach-moved, reach-epilogue}
+use Rattle.forward.proofs.Reaching.{At, Roomy, reach, reach-prologue, reach-body, reach-idle, reach-moved, reach-epilogue, words-same}
 
 -- ---- tables with one record, of a function at 0x1000
 -- word 1 of the .pdata record, and the words of the .xdata at 0x3000
@@ -442,3 +443,35 @@ tail-0 e h = in-body tail e h 0x0 refl (inl (omega arith), tt) (tt, (tt, tt)) (o
 pub tail-14 : (e : State) → Entered e → Reaches (inputs tail) e 0x14 Epilogue (up2 ∷ pop45lr ∷ [])
 unfolding opened
 tail-14 e h = in-epilogue tail e h [] (up2 ∷ pop45lr ∷ []) refl here (full refl refl) refl refl (tt, (tt, tt)) (omega arith)
+
+-- ---- a body that has used a register it saved
+used : (e : State) (v : ℕ) → State
+used e v =
+    let s : State = after (up2 ∷ pop45lr ∷ []) e in
+    let w : Whole (setReg (s .regs) 4 v) = whole-reg 4 v (s .whole) in
+    record { regs = setPc (setReg (s .regs) 4 v) 0x00401006; stack = s .stack; whole = record { r = w .r; d = w .d } }
+
+pub plain-6-used : (e : State) (v : ℕ) → v < 2 ^ 32 → Entered e → Reaches (inputs plain) e 6 Body (up2 ∷ pop45lr ∷ [])
+unfolding opened used
+plain-6-used e v b h =
+    let cs : List Code = up2 ∷ pop45lr ∷ [] in
+    let w = runs e cs (tt, (tt, tt)) (omega (arith, h .roomy .low)) (h .roomy .high) in
+    let g : Regs = after cs e .regs in
+    let ne : _≢_ {A = ℕ} 4 13 = λ q. omega arith in
+    let same = value-reg g 4 v (after cs e .whole) (omega arith) ne in
+    reach-body e (used e v) (known plain 6 refl (omega arith)) (h .roomy) (omega arith) (inl (omega arith), tt) (tt, (tt, tt)) (omega arith)
+    (record {
+      base = refl;
+      long = refl;
+      words = words-same (Wanted cs) (after cs e .stack) (g .sp) cs;
+      sp = refl;
+      rX = λ x q. absurd (no x q);
+      unsaved = λ x l n. ap (λ f. f x) same ∙ upd-cases (λ z. z ≡ value g x) (value g) 4 v x (λ q. absurd (n (inr (inl (inl q))))) (λ q. refl);
+    })
+    refl
+    (λ x. let z = set-real 4 v (x .real) b in record { real = record { r = z .r; lr = z .lr; d = z .d }; bytes = x .bytes; sp = x .sp })
+  where
+    no : (x : ℕ) → RX (up2 ∷ pop45lr ∷ []) x → ⊥
+    no x (inl q) = q
+    no x (inr (inl q)) = q
+    no x (inr (inr q)) = q

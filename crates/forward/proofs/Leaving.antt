@@ -59,12 +59,8 @@ module _ (k : Lent) (e : St) (al : e .sp % 4 ≡ 0) (top : e .sp ≤ end k) (rX 
   undoes : (u : Undo) (cs : List Code) {s t : State} → Sound u → Undoes u s t → s .stack ≡ k → Inv (k .base) e (ops u ++ flat cs) (seen (s .regs)) (wordAt k) → Rest cs t
   undoes u cs {s} {t} o f q v =
       let n = effects k e al top u (flat cs) (s .regs) o (s .whole) v in
-      let same : ok (n .next) ≡ ok (f .after) = sym (n .runs k (outside-same (e .sp) (end k) k)) ∙ ap (λ x. effect x u (s .regs)) (sym q) ∙ f .does in
-      let p : f .after ≡ n .next = cc in
-      record {
-        stack = f .stack ∙ q;
-        inv = inv-like (f .sp ∙ ap (λ g. g .sp) p) (λ x w. value-same (f .rest) x ∙ ap (λ g. value g x) p) (n .inv);
-      }
+      let d = f .does (n .next) (ap (λ x. effect x u (s .regs)) q ∙ n .runs k (outside-same (e .sp) (end k) k)) in
+      record { stack = f .stack ∙ q; inv = inv-like (d .0) (λ x w. value-same (d .1) x) (n .inv) }
 
   idles : (cs : List Code) {s t : State} → ((x : ℕ) → RX cs x → rX x) → Idles rX s t → s .stack ≡ k → Inv (k .base) e (flat cs) (seen (s .regs)) (wordAt k) → Rest cs t
   idles cs {s} {t} inc f q v = record {

@@ -54,7 +54,7 @@ holds-same : (of : ℕ → Type 0) (k : Lent) (a : ℕ) (xs : List ℕ) → Hold
 holds-same of k a [] = tt
 holds-same of k a (x ∷ xs) = (λ q. refl, holds-same of k (a + width x) xs)
 
-words-same : (of : ℕ → Type 0) (k : Lent) (a : ℕ) (cs : List Code) → Words of k k a cs
+pub words-same : (of : ℕ → Type 0) (k : Lent) (a : ℕ) (cs : List Code) → Words of k k a cs
 words-same of k a [] = tt
 words-same of k a (c ∷ cs) = (holds-same of k a (saves (c .undo)), words-same of k (a + falls (c .undo)) cs)
 
@@ -116,10 +116,10 @@ module _ (k : Lent) (e : St) (al : e .sp % 4 ≡ 0) (top : e .sp ≤ end k) (rX 
       record {
         now = t;
         leaves = f t (record {
-          after = n .next;
-          does = subst (λ (x : Lent). effect x u (s .regs) ≡ ok (n .next)) (sym q) (n .runs k (outside-same (e .sp) (end k) k));
-          sp = refl;
-          rest = record { r = refl; lr = refl; d = refl };
+          does = λ h z.
+              let same : ok (n .next) ≡ ok h = sym (n .runs k (outside-same (e .sp) (end k) k)) ∙ ap (λ (x : Lent). effect x u (s .regs)) (sym q) ∙ z in
+              let p : n .next ≡ h = cc in
+              (ap (λ g. g .sp) p, record { r = ap (λ g. g .r) p; lr = ap (λ g. g .lr) p; d = ap (λ g. g .d) p });
           stack = refl;
         });
         at = refl;

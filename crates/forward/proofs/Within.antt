@@ -19,7 +19,7 @@ use Rattle.machine.specs.Registers.{reg}
 use Rattle.machine.specs.declared.Regs.{Regs}
 use Rattle.frame.specs.Frame.{Caller, returned, within, unwound}
 use Rattle.forward.specs.Registers.{value}
-use Rattle.forward.specs.State.{State, Outside}
+use Rattle.forward.specs.State.{Whole, State, Outside}
 use Rattle.forward.specs.Demand.{Answer}
 use Rattle.forward.proofs.Back.{Entry, inv-near, inv-entry, Near}
 use Rattle.forward.proofs.Steps.{seen, st}
@@ -36,11 +36,13 @@ value-r g x h = rw (lt-ltb x 16 (omega arith)) refl
 abbrev callerOf : Regs → Place → (handler : ℕ) → List Code → Caller
 callerOf h p rva cs = record { regs = returned h; place = p; handler = rva; codes = length cs }
 
-answers : (entry : State) (p : Place) (rva : ℕ) (cs : List Code) (g h : Regs) → Entry (st entry) (seen h) → Answer entry p rva cs (unwound g (ok (callerOf h p rva cs)))
-answers entry p rva cs g h e = record {
+answers : (entry : State) (p : Place) (rva : ℕ) (cs : List Code) (g h : Regs) → Whole h → Entry (st entry) (seen h) → Answer entry p rva cs (unwound g (ok (callerOf h p rva cs)))
+answers entry p rva cs g h w e = record {
   given = refl;
   sp = e .sp;
   pc = ap even (e .r 14 (inr (inl refl)));
+  lr = e .r 14 (inr (inl refl));
+  whole = record { r = w .r; d = w .d };
   r = λ x a b. sym (value-r h x b) ∙ e .r x (inl (a, b)) ∙ value-r (entry .regs) x b;
   d = λ x a b. sym (value-d h x) ∙ e .r (16 + x) (inr (inr (omega arith, omega arith))) ∙ value-d (entry .regs) x;
   place = refl;
@@ -70,6 +72,6 @@ finds-in s v entry o now p cs w al top m y =
     record {
       caller = callerOf (u .next) p (s .handler) cs;
       given = λ k a. rw (w, y .todo, u .runs k a, le-leb _ _ up) refl;
-      answer = answers entry p (s .handler) cs (now .regs) (u .next) e;
+      answer = answers entry p (s .handler) cs (now .regs) (u .next) (u .whole) e;
       near = n;
     }

@@ -22,7 +22,7 @@ use Rattle.tables.specs.Record.{shapeOf}
 use Rattle.tables.specs.declared.Entry.{Entry}
 use Rattle.frame.specs.Frame.{Inputs, fitStack}
 use Rattle.frame.specs.declared.Unwound.{Unwound}
-use Rattle.forward.specs.State.{State, Outside}
+use Rattle.forward.specs.State.{Whole, State, Outside}
 use Rattle.forward.specs.Stop.{Stopped}
 
 -- the inputs, but for the stack
@@ -56,6 +56,8 @@ pub record Answer (entry : State) (p : Place) (rva : ℕ) (undone : List Code) (
   pub given : c .verdict ≡ Given
   pub sp : c .regs .sp ≡ entry .regs .sp
   pub pc : c .regs .pc ≡ even (entry .regs .lr)
+  pub lr : c .regs .lr ≡ entry .regs .lr
+  pub whole : Whole (c .regs)
   pub r : (x : ℕ) → 4 ≤ x → x ≤ 11 → reg (c .regs) x ≡ reg (entry .regs) x
   pub d : (x : ℕ) → 8 ≤ x → x ≤ 15 → getD (c .regs .d) x 0 ≡ getD (entry .regs .d) x 0
   pub place : c .place ≡ p

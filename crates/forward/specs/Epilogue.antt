@@ -12,12 +12,9 @@ use Rattle.machine.specs.declared.Regs.{Regs}
 use Rattle.forward.specs.Registers.{value}
 use Rattle.forward.specs.State.{State, SameRest}
 
--- "each instruction does what its code does"; the pc goes on
+-- "each instruction does what its code does", where what it loads is lent; the pc goes on
 pub record Undoes (u : Undo) (s t : State) : Type 0 where
-  pub after : Regs
-  pub does : effect (s .stack) u (s .regs) ≡ ok after
-  pub sp : t .regs .sp ≡ after .sp
-  pub rest : SameRest after (t .regs)
+  pub does : (after : Regs) → effect (s .stack) u (s .regs) ≡ ok after → (t .regs .sp ≡ after .sp) × SameRest after (t .regs)
   pub stack : t .stack ≡ s .stack
 
 -- r0-r3, r12 other than rX
