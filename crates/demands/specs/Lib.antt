@@ -1,4 +1,5 @@
 pub mod Reader
+pub mod Contract
 pub mod Demand1
 pub mod Demand2
 pub mod Shams
