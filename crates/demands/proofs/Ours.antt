@@ -1,23 +1,22 @@
 -- The three demands, of our reader.
 -- Assumes nothing.
 use Prim.Native.Nat.{ℕ, zero, suc, _+_, _≤_}
-use mathlib.Core.Path.{_≡_, refl, sym, ap, _∙_, subst}
-use mathlib.Core.Logic.{_≢_}
-use mathlib.Core.List.{List, [], _∷_, _++_, append-assoc}
+use mathlib.Core.Path.{_≡_, refl, sym, ap, _∙_}
+use mathlib.Core.List.{List, _++_, append-assoc}
 use mathlib.Core.Bool.{Bool, true, false}
 use lib.ListN.{length, take, drop, length-append, length-drop}
 use lib.Seq.{take-append-seam, drop-append-seam}
 use lib.Dec.{eqb}
 use native.Mathlib.Omega.{arith}
 use Rattle.words.specs.Bits.{even}
-use Rattle.words.specs.Refusals.{number}
+use Rattle.words.specs.Refusals.{number, verdictNumber}
 use Rattle.words.specs.declared.Refusal.{Refusal}
 use Rattle.words.specs.declared.Verdict.the-variants as Verdict
-use Rattle.unwinding.specs.Answer.{Res, ok, refuse, either, verdict, if_then_else_}
+use Rattle.unwinding.specs.Answer.{Res, ok, refuse, if_then_else_}
 use Rattle.machine.specs.declared.Regs.{Regs}
-use Rattle.tables.specs.Xdata.{xdataSize, sizeAnswer}
+use Rattle.tables.specs.Xdata.{sizeAnswer}
 use Rattle.frame.specs.Frame.{Inputs, Caller, frame, unwound}
-use Rattle.walking.specs.Walk.{Trail, nextFrame, stopped, listed, walkFrom, walk, walkedAll}
+use Rattle.walking.specs.Walk.{Trail, nextFrame, stopped, walkFrom, walk, walkedAll}
 use Rattle.walking.specs.declared.Frame.{Frame}
 use Rattle.walking.specs.declared.Stop.{Stop}
 use Rattle.walking.specs.declared.Stop.the-variants as Stop
@@ -27,24 +26,21 @@ use Rattle.caller_text.proofs.Sizes.{caller-fits}
 use Rattle.forward.specs.Demand.{Demand3}
 use Rattle.forward.proofs.Framed as Framed
 use Rattle.demands.specs.Reader.{ours}
-use Rattle.demands.specs.Demand1.{Untouched, Agree, Demand1}
+use Rattle.demands.specs.Demand1.{Untouched, Agree, ofExtent, Demand1}
 use Rattle.demands.specs.Demand2.{Demand2}
 use Rattle.demands.proofs.Staying.{Stays}
 use Rattle.demands.proofs.Wider.{Begins, stays-frame, stays-walk, stays-listed, stays-size}
-use Rattle.demands.proofs.Numbers.{UpTo, numbered, up-first, up-next}
+use Rattle.demands.proofs.Numbers.{numbered, up-first, up-next, found-number, size-number, word-number, codes-number}
+use Rattle.demands.proofs.Whole.{whole-file}
 
 -- ---- an answer by its verdict
 refused-is : (g : Regs) (x : Res Caller) (r : Refusal) → unwound g x .verdict ≡ Verdict.Refused r → x ≡ refuse r
 refused-is g (ok c) r e = absurd (let z : _≡_ {A = ℕ} 0 1 = cc in omega arith)
 refused-is g (refuse q) r e = ap refuse (let z : q ≡ r = cc in z)
 
-answer-stays : (g : Regs) (x y : Res Caller) → Stays x y → unwound g x .verdict ≡ Verdict.Given → unwound g y ≡ unwound g x
-answer-stays g (ok c) y h e = ap (unwound g) (h c refl)
-answer-stays g (refuse q) y h e = absurd (let z : _≡_ {A = ℕ} 0 1 = cc in omega arith)
-
-size-answer-stays : (x y : Res ℕ) → Stays x y → verdict x ≡ Verdict.Given → sizeAnswer y ≡ sizeAnswer x
-size-answer-stays (ok n) y h e = ap sizeAnswer (h n refl)
-size-answer-stays (refuse q) y h e = absurd (let z : _≡_ {A = ℕ} 0 1 = cc in omega arith)
+answer-stays : (g : Regs) (x y : Res Caller) → Stays x y → ofExtent (verdictNumber (unwound g x .verdict)) ≡ false → unwound g y ≡ unwound g x
+answer-stays g (ok c) y h e = ap (unwound g) (h e)
+answer-stays g (refuse q) y h e = ap (unwound g) (h e)
 
 -- ---- the walk
 walk-number : (t : Inputs) (n : ℕ) (first : Bool) (g : Regs) (r : Refusal) (pc : ℕ) → walkFrom t n first g .stop ≡ Stop.Refused r pc → number r ≤ 13
@@ -86,12 +82,17 @@ pub demand1 : Demand1 ours
 demand1 = record {
   frame-number = λ t g r e. (numbered r, up-first t g r (refused-is g (frame t g) r e));
   walk-number = λ t g l r pc e. (numbered r, walk-number t (length l) true g r pc e);
+  find-number = found-number;
+  size-number = size-number;
+  word-number = word-number;
+  codes-number = codes-number;
   given-back = λ t g r e. ap (unwound g) (refused-is g (frame t g) r e);
   untouched = λ t g l. untouched l (walk t (length l) g) (walk-room t (length l) true g);
   frame-stays = λ t t′ g w e. answer-stays g (frame t g) (frame t′ g) (stays-frame t t′ w true g) e;
   walk-stays = λ t t′ g l w h. ap (walkedAll l) (stays-walk t t′ w (length l) true g h);
   listed-stay = λ t t′ g l w. agree l (walk t (length l) g) (walk t′ (length l) g) (stays-listed t t′ w (length l) true g);
-  size-stays = λ x x′ at m f e. size-answer-stays (xdataSize x at) (xdataSize x′ at) (stays-size x x′ m at f) e;
+  size-stays = λ x x′ at m f e. ap sizeAnswer (stays-size x x′ m at f e);
+  whole-file = whole-file;
   list-fits = listing-fits;
   show-fits = caller-fits;
 }

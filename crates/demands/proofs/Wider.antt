@@ -1,7 +1,8 @@
--- Demand 1's heart: what is answered from some lent bytes is answered from more of them too, since no byte outside was read.
+-- Demand 1's heart: what is answered from some lent bytes, a refusal too unless it is of how much is lent, is answered from more of them
+-- too, since no byte outside was read.
 -- Assumes nothing.
 use Prim.Native.Nat.{ℕ, zero, suc, _+_, _-_, _*_, _%_, _^_, _≤_, _<_}
-use mathlib.Core.Path.{_≡_, refl, sym, ap, ap₂, _∙_, subst}
+use mathlib.Core.Path.{_≡_, refl, ap, ap₂, _∙_}
 use mathlib.Core.List.{List, [], _∷_, _++_}
 use mathlib.Core.Bool.{Bool, true, false, _&&_}
 use mathlib.Core.Option.{Option, none, some}
@@ -12,37 +13,35 @@ use native.Mathlib.Omega.{arith}
 use borrow.Author.Tests.{leb-true, le-leb}
 use Rattle.words.specs.Bits.{bits, bit, even}
 use Rattle.words.specs.Lent.{Lent, end, holds, wordAt}
-use Rattle.words.specs.Little.{word32}
-use Rattle.words.specs.Units.{stackBytes, codeWordBytes}
-use mathlib.Core.Logic.{_≢_}
+use Rattle.words.specs.Units.{codeWordBytes}
+use Rattle.words.specs.Refusals.{number}
 use Rattle.words.specs.declared.Refusal.{Refusal}
-use Rattle.words.specs.declared.Refusal.the-variants.{BadStack, OutsideXdata, Reserved, SpFell, SpSame, UnfitInput}
-use Rattle.unwinding.specs.Answer.{Res, ok, refuse, _>>=_, _>>_, need, if_then_else_, maybe}
+use Rattle.words.specs.declared.Refusal.the-variants.{BadStack, OutsideXdata, Reserved, UnfitInput}
+use Rattle.unwinding.specs.Answer.{Res, ok, refuse, if_then_else_, maybe}
 use Rattle.unwinding.specs.CodeList.{run}
 use Rattle.unwinding.specs.Shape.{Shape}
-use Rattle.unwinding.specs.View.{View, view}
-use Rattle.unwinding.specs.Todo.{Todo, todo}
+use Rattle.unwinding.specs.View.{view}
+use Rattle.unwinding.specs.Todo.{todo}
 use Rattle.codes.specs.Code.{size, codesAt}
 use Rattle.codes.specs.declared.Code.{Code}
 use Rattle.codes.specs.declared.Undo.{Undo}
 use Rattle.codes.specs.declared.Undo.the-variants.{Up, Pop, SpFrom, Vpop, LoadLr, Nothing}
 use Rattle.machine.specs.declared.Regs.{Regs}
-use Rattle.machine.specs.Registers.{setReg, setSp, setD}
 use Rattle.machine.specs.Step.{stands, load, popReg, popD, pop, vpop, effect, step}
 use Rattle.tables.specs.declared.Entry.{Entry}
 use Rattle.tables.specs.declared.Head.{Head}
 use Rattle.tables.specs.Pdata.{find}
-use Rattle.tables.specs.Xdata.{X, E, fitXdata, scopeCount, codesOffset, handlerOffset, recordBytes, shortHead, longHead, headAt, xdataSize}
-use Rattle.tables.specs.Record.{scopeOf, scopesAt, fullOf, fullShape, packedShape, shapeOf}
+use Rattle.tables.specs.Xdata.{X, fitXdata, scopeCount, codesOffset, handlerOffset, recordBytes, shortHead, longHead, headAt, xdataSize}
+use Rattle.tables.specs.Record.{scopesAt, fullOf, fullShape, packedShape, shapeOf}
 use Rattle.tables.proofs.Heads.{head-small}
 use Rattle.words.proofs.Laws.{both}
 use Rattle.unwinding.specs.declared.Scope.{Scope}
-use Rattle.walking.specs.Walk.{nextFrame, listed, walkFrom}
+use Rattle.walking.specs.Walk.{Trail, nextFrame, listed, walkFrom}
 use Rattle.walking.specs.declared.Frame.{Frame}
 use Rattle.walking.specs.declared.Stop.the-variants as Stop
-use Rattle.frame.specs.Frame.{Inputs, Caller, fitStack, returned, uncovered, within, byRecord, afterFind, frameOf}
-use Rattle.demands.specs.Demand1.{More, Wider}
-use Rattle.demands.proofs.Staying.{Stays, stays-bind, stays-need, stays-run}
+use Rattle.frame.specs.Frame.{Inputs, Caller, fitStack, uncovered, within, byRecord, frameOf}
+use Rattle.demands.specs.Demand1.{More, Wider, ofExtent}
+use Rattle.demands.proofs.Staying.{Stays, stays-given, stays-bind, stays-need, stays-test, stays-run}
 
 -- ---- bytes that are lent are lent in more
 module _ (l l′ : Lent) (m : More l l′) where
@@ -107,85 +106,85 @@ module _ (k k′ : Lent) (m : More k k′) where
   stays-load : (a : ℕ) → Stays (load k a) (load k′ a)
   unfolding load
   stays-load a =
-      stays-need (holds k a 4) (holds k′ a 4) BadStack (ok (wordAt k a)) (ok (wordAt k′ a)) (more-holds k k′ m a 4)
-      (λ h w e. let p = inside k k′ m a 4 h in ap ok (more-word k k′ m a (p .0) (p .1)) ∙ e)
+      stays-need (holds k a 4) (holds k′ a 4) BadStack (ok (wordAt k a)) (ok (wordAt k′ a)) refl (more-holds k k′ m a 4)
+      (λ h q. let p = inside k k′ m a 4 h in ap ok (more-word k k′ m a (p .0) (p .1)))
 
   stays-popReg : (x : ℕ) (g : Regs) → Stays (popReg k x g) (popReg k′ x g)
   unfolding popReg
-  stays-popReg x g = stays-bind (load k (g .sp)) (load k′ (g .sp)) _ _ (stays-load (g .sp)) (λ w p a e. e)
+  stays-popReg x g = stays-bind (load k (g .sp)) (load k′ (g .sp)) _ _ (stays-load (g .sp)) (λ w p e. refl)
 
   stays-popD : (x : ℕ) (g : Regs) → Stays (popD k x g) (popD k′ x g)
   unfolding popD
   stays-popD x g =
       stays-bind (load k (g .sp)) (load k′ (g .sp)) _ _ (stays-load (g .sp))
-      (λ w p. stays-bind (load k (g .sp + 4)) (load k′ (g .sp + 4)) _ _ (stays-load (g .sp + 4)) (λ v q a e. e))
+      (λ w p. stays-bind (load k (g .sp + 4)) (load k′ (g .sp + 4)) _ _ (stays-load (g .sp + 4)) (λ v q e. refl))
 
   stays-if : (b : Bool) (x : ℕ) (g : Regs) → Stays (if b then popReg k x g else ok g) (if b then popReg k′ x g else ok g)
   stays-if true x g = stays-popReg x g
-  stays-if false x g = λ a e. e
+  stays-if false x g = λ e. refl
 
   stays-pop : (l n : ℕ) (g : Regs) → Stays (pop k l n g) (pop k′ l n g)
   unfolding pop
-  stays-pop l zero g = λ a e. e
+  stays-pop l zero g = λ e. refl
   stays-pop l (suc n) g = stays-bind (pop k l n g) (pop k′ l n g) _ _ (stays-pop l n g) (λ h p. stays-if (bit n l) n h)
 
   stays-vpop : (x n : ℕ) (g : Regs) → Stays (vpop k x n g) (vpop k′ x n g)
   unfolding vpop
-  stays-vpop x zero g = λ a e. e
+  stays-vpop x zero g = λ e. refl
   stays-vpop x (suc n) g = stays-bind (vpop k x n g) (vpop k′ x n g) _ _ (stays-vpop x n g) (λ h p. stays-popD (x + n) h)
 
   stays-effect : (u : Undo) (g : Regs) → Stays (effect k u g) (effect k′ u g)
-  stays-effect (Up n) g = λ a e. e
+  stays-effect (Up n) g = λ e. refl
   stays-effect (Pop l) g = stays-pop l 15 g
-  stays-effect (SpFrom x) g = λ a e. e
+  stays-effect (SpFrom x) g = λ e. refl
   stays-effect (Vpop s e) g = stays-vpop s (e + 1 - s) g
-  stays-effect (LoadLr n) g = stays-bind (load k (g .sp)) (load k′ (g .sp)) _ _ (stays-load (g .sp)) (λ w p a e. e)
-  stays-effect Nothing g = λ a e. e
+  stays-effect (LoadLr n) g = stays-bind (load k (g .sp)) (load k′ (g .sp)) _ _ (stays-load (g .sp)) (λ w p e. refl)
+  stays-effect Nothing g = λ e. refl
 
   stays-step : (c : Code) (g : Regs) → Stays (step k c g) (step k′ c g)
   unfolding step
   stays-step c g =
       stays-bind (effect k (c .undo) g) (effect k′ (c .undo) g) _ _ (stays-effect (c .undo) g)
-      (λ h p. stays-need (stands k (h .sp)) (stands k′ (h .sp)) BadStack _ _ (more-stands (h .sp)) (λ q a e. e))
+      (λ h p. stays-need (stands k (h .sp)) (stands k′ (h .sp)) BadStack _ _ refl (more-stands (h .sp)) (λ q e. refl))
 
   stays-within : (s : Shape) (o : ℕ) (g : Regs) → Stays (within k s o g) (within k′ s o g)
   unfolding within
   stays-within s o g =
-      stays-bind (view size codesAt s) (view size codesAt s) _ _ (λ a e. e)
-      (λ v p. stays-bind (todo size v o) (todo size v o) _ _ (λ a e. e)
+      stays-bind (view size codesAt s) (view size codesAt s) _ _ (λ e. refl)
+      (λ v p. stays-bind (todo size v o) (todo size v o) _ _ (λ e. refl)
       (λ t q. stays-bind (run (step k) (t .codes) g) (run (step k′) (t .codes) g) _ _ (stays-run (step k) (step k′) stays-step (t .codes) g)
-      (λ h r a e. e)))
+      (λ h r e. refl)))
 
 -- ---- the .xdata
 module _ (x x′ : Lent) (m : More x x′) where
   stays-long : (a w : ℕ) → Stays (longHead x a w) (longHead x′ a w)
   unfolding longHead
   stays-long a w =
-      stays-need (holds x a 8) (holds x′ a 8) OutsideXdata _ _ (more-holds x x′ m a 8)
+      stays-need (holds x a 8) (holds x′ a 8) OutsideXdata _ _ refl (more-holds x x′ m a 8)
       (λ h. let p = inside x x′ m a 8 h in
       let e : wordAt x′ (a + 4) ≡ wordAt x (a + 4) = more-word x x′ m (a + 4) (omega (arith, p .0)) (omega (arith, p .1)) in
-      rw e (λ b q. q))
+      rw e (λ q. refl))
 
   stays-kind : (t : Bool) (a w : ℕ) → Stays (if t then longHead x a w else ok (shortHead w)) (if t then longHead x′ a w else ok (shortHead w))
   stays-kind true a w = stays-long a w
-  stays-kind false a w = λ b e. e
+  stays-kind false a w = λ e. refl
 
   pub stays-head : (a : ℕ) → Stays (headAt x a) (headAt x′ a)
   unfolding headAt
   stays-head a =
-      stays-need (holds x a 4) (holds x′ a 4) OutsideXdata _ _ (more-holds x x′ m a 4)
+      stays-need (holds x a 4) (holds x′ a 4) OutsideXdata _ _ refl (more-holds x x′ m a 4)
       (λ h. let p = inside x x′ m a 4 h in
       let e : wordAt x′ a ≡ wordAt x a = more-word x x′ m a (p .0) (p .1) in
       rw e
-      (stays-need (eqb (bits 18 2 (wordAt x a)) 0) (eqb (bits 18 2 (wordAt x a)) 0) Reserved _ _ (λ q. q)
+      (stays-test (eqb (bits 18 2 (wordAt x a)) 0) Reserved _ _
       (λ q. stays-bind (if eqb (bits 23 9 (wordAt x a)) 0 then longHead x a (wordAt x a) else ok (shortHead (wordAt x a))) (if eqb (bits 23 9 (wordAt x a)) 0 then longHead x′ a (wordAt x a) else ok (shortHead (wordAt x a))) _ _ (stays-kind (eqb (bits 23 9 (wordAt x a)) 0) a (wordAt x a))
-      (λ g r. stays-need (holds x a (recordBytes g)) (holds x′ a (recordBytes g)) OutsideXdata _ _ (more-holds x x′ m a (recordBytes g)) (λ s b z. z)))))
+      (λ g r. stays-need (holds x a (recordBytes g)) (holds x′ a (recordBytes g)) OutsideXdata _ _ refl (more-holds x x′ m a (recordBytes g)) (λ s z. refl)))))
 
   pub stays-size : (a : ℕ) → fitXdata x′ ≡ true → Stays (xdataSize x a) (xdataSize x′ a)
   unfolding xdataSize
   stays-size a f =
-      stays-need (fitXdata x) (fitXdata x′) UnfitInput _ _ (λ q. f)
-      (λ q. stays-bind (headAt x (a - a % 4)) (headAt x′ (a - a % 4)) _ _ (stays-head (a - a % 4)) (λ h p b e. e))
+      stays-need (fitXdata x) (fitXdata x′) UnfitInput _ _ refl (λ q. f)
+      (λ q. stays-bind (headAt x (a - a % 4)) (headAt x′ (a - a % 4)) _ _ (stays-head (a - a % 4)) (λ h p e. refl))
 
   same-scopes : (n a : ℕ) → x .base ≤ a → a + 4 * n ≤ end x → scopesAt x′ a n ≡ scopesAt x a n
   unfolding scopesAt
@@ -211,21 +210,21 @@ module _ (x x′ : Lent) (m : More x x′) where
       stays-bind (headAt x a) (headAt x′ a) _ _ (stays-head a)
       (λ h p. let w = inside x x′ m a (recordBytes h) (head-small x a h p .lent) in
       let s = same-scopes (scopeCount h) (a + h .bytes) (omega (arith, w .0)) (omega (arith, w .1)) in
-      stays-bind (scopesAt x (a + h .bytes) (scopeCount h)) (scopesAt x′ (a + h .bytes) (scopeCount h)) _ _ (λ l e. s ∙ e)
-      (λ l q b e. ap ok (same-full a h l (w .0) (w .1)) ∙ e))
+      stays-bind (scopesAt x (a + h .bytes) (scopeCount h)) (scopesAt x′ (a + h .bytes) (scopeCount h)) _ _ (λ e. s)
+      (λ l q e. ap ok (same-full a h l (w .0) (w .1))))
 
   stays-shape : (e : Entry) → Stays (shapeOf x e) (shapeOf x′ e)
   stays-shape e = go (eqb (bits 0 2 (e .word)) 0)
     where
       go : (t : Bool) → Stays (if t then fullShape x (e .word) else packedShape (e .word)) (if t then fullShape x′ (e .word) else packedShape (e .word))
       go true = stays-full (e .word)
-      go false = λ a q. q
+      go false = λ q. refl
 
 -- ---- one frame, and the walk's next
 module _ (t t′ : Inputs) (w : Wider t t′) (first : Bool) where
   stays-covered : (b : Bool) (s : Shape) (o : ℕ) (g : Regs) → Stays (if b then within (t .stack) s o g else uncovered first g) (if b then within (t′ .stack) s o g else uncovered first g)
   stays-covered true s o g = stays-within (t .stack) (t′ .stack) (w .stack) s o g
-  stays-covered false s o g = λ a e. e
+  stays-covered false s o g = λ e. refl
 
   stays-record : (e : Entry) (g : Regs) → Stays (byRecord first t e g) (byRecord first t′ e g)
   unfolding byRecord
@@ -235,28 +234,34 @@ module _ (t t′ : Inputs) (w : Wider t t′) (first : Bool) where
       (λ s p. stays-covered (ltb (even (g .pc) - t .image - e .start) (s .span)) s (even (g .pc) - t .image - e .start) g))
 
   stays-found : (e : Option Entry) (g : Regs) → Stays (maybe e (uncovered first g) (λ e. byRecord first t e g)) (maybe e (uncovered first g) (λ e. byRecord first t′ e g))
-  stays-found none g = λ a e. e
+  stays-found none g = λ e. refl
   stays-found (some e) g = stays-record e g
 
   pub stays-frame : (g : Regs) → Stays (frameOf first t g) (frameOf first t′ g)
   unfolding frameOf
   stays-frame g =
-      stays-need (fitStack (t .stack) && fitXdata (t .xdata)) (fitStack (t′ .stack) && fitXdata (t′ .xdata)) UnfitInput _ _ (λ q. w .fit)
-      (λ q. stays-bind (find (t .image) (t .pdata) (g .pc)) (find (t′ .image) (t′ .pdata) (g .pc)) _ _ (λ a e. rw (w .image, w .pdata) e)
-      (λ e p. stays-need (stands (t .stack) (g .sp)) (stands (t′ .stack) (g .sp)) BadStack _ _ (more-stands (t .stack) (t′ .stack) (w .stack) (g .sp))
+      stays-need (fitStack (t .stack) && fitXdata (t .xdata)) (fitStack (t′ .stack) && fitXdata (t′ .xdata)) UnfitInput _ _ refl (λ q. w .fit)
+      (λ q. stays-bind (find (t .image) (t .pdata) (g .pc)) (find (t′ .image) (t′ .pdata) (g .pc)) _ _ (λ e. rw (w .image, w .pdata) refl)
+      (λ e p. stays-need (stands (t .stack) (g .sp)) (stands (t′ .stack) (g .sp)) BadStack _ _ refl (more-stands (t .stack) (t′ .stack) (w .stack) (g .sp))
       (λ r. stays-found e g)))
 
   pub stays-next : (g : Regs) → Stays (nextFrame first t g) (nextFrame first t′ g)
   unfolding nextFrame
-  stays-next g = stays-bind (frameOf first t g) (frameOf first t′ g) _ _ (stays-frame g) (λ c p a e. e)
+  stays-next g = stays-bind (frameOf first t g) (frameOf first t′ g) _ _ (stays-frame g) (λ c p e. refl)
+
+  pub given-next : (g : Regs) (c : Caller) → nextFrame first t g ≡ ok c → nextFrame first t′ g ≡ ok c
+  given-next g c e = stays-given (nextFrame first t g) (nextFrame first t′ g) c (stays-next g) e
 
 -- a list begins with another
 pub record Begins (xs ys : List Frame) : Type 0 where
   pub rest : List Frame
   pub whole : ys ≡ xs ++ rest
 
--- ---- the walk that is not refused
-pub stays-walk : (t t′ : Inputs) → Wider t t′ → (n : ℕ) (first : Bool) (g : Regs) → ((r : Refusal) (pc : ℕ) → walkFrom t n first g .stop ≢ Stop.Refused r pc) → walkFrom t′ n first g ≡ walkFrom t n first g
+-- ---- the walk that is not refused by how much is lent
+abbrev Elsewhere : Trail → Type 0
+Elsewhere w = (r : Refusal) (pc : ℕ) → w .stop ≡ Stop.Refused r pc → ofExtent (number r) ≡ false
+
+pub stays-walk : (t t′ : Inputs) → Wider t t′ → (n : ℕ) (first : Bool) (g : Regs) → Elsewhere (walkFrom t n first g) → walkFrom t′ n first g ≡ walkFrom t n first g
 unfolding walkFrom
 stays-walk t t′ w zero first g h = refl
 stays-walk t t′ w (suc n) first g h = go (λ c. stays-walk t t′ w n false (c .regs)) (nextFrame first t g) refl
@@ -264,14 +269,16 @@ stays-walk t t′ w (suc n) first g h = go (λ c. stays-walk t t′ w n false (c
     Same : (n : ℕ) → (first : Bool) → Regs → Type 0
     Same n first g = walkFrom t′ n first g ≡ walkFrom t n first g
 
-    last : ((c : Caller) → ((r : Refusal) (pc : ℕ) → walkFrom t n false (c .regs) .stop ≢ Stop.Refused r pc) → Same n false (c .regs)) → (c : Caller) → nextFrame first t g ≡ ok c → (b : Bool) → eqb (c .regs .pc) 0 ≡ b → Same (suc n) first g
-    last below c e true q = rw (stays-next t t′ w first g c e, e, q) refl
+    last : ((c : Caller) → Elsewhere (walkFrom t n false (c .regs)) → Same n false (c .regs)) → (c : Caller) → nextFrame first t g ≡ ok c → (b : Bool) → eqb (c .regs .pc) 0 ≡ b → Same (suc n) first g
+    last below c e true q = rw (given-next t t′ w first g c e, e, q) refl
     last below c e false q =
         let more = below c (λ r pc z. h r pc (rw (e, q) z)) in
-        rw (stays-next t t′ w first g c e, e, q) (ap (listed g c) more)
+        rw (given-next t t′ w first g c e, e, q) (ap (listed g c) more)
 
-    go : ((c : Caller) → ((r : Refusal) (pc : ℕ) → walkFrom t n false (c .regs) .stop ≢ Stop.Refused r pc) → Same n false (c .regs)) → (r : Res Caller) → nextFrame first t g ≡ r → Same (suc n) first g
-    go below (refuse r) e = absurd (h r (even (g .pc)) (rw e refl))
+    go : ((c : Caller) → Elsewhere (walkFrom t n false (c .regs)) → Same n false (c .regs)) → (r : Res Caller) → nextFrame first t g ≡ r → Same (suc n) first g
+    go below (refuse r) e =
+        let q : nextFrame first t′ g ≡ nextFrame first t g = stays-next t t′ w first g (rw e (h r (even (g .pc)) (rw e refl))) in
+        rw (q, e) refl
     go below (ok c) e = last below c e (eqb (c .regs .pc) 0) refl
 
 -- ---- the frames that any walk lists: those before it stops come first in the wider one
@@ -281,9 +288,9 @@ stays-listed t t′ w zero first g = record { rest = []; whole = refl }
 stays-listed t t′ w (suc n) first g = go (λ c. stays-listed t t′ w n false (c .regs)) (nextFrame first t g) refl
   where
     last : ((c : Caller) → Begins (walkFrom t n false (c .regs) .frames) (walkFrom t′ n false (c .regs) .frames)) → (c : Caller) → nextFrame first t g ≡ ok c → (b : Bool) → eqb (c .regs .pc) 0 ≡ b → Begins (walkFrom t (suc n) first g .frames) (walkFrom t′ (suc n) first g .frames)
-    last below c e true q = rw (stays-next t t′ w first g c e, e, q) (record { rest = []; whole = refl })
+    last below c e true q = rw (given-next t t′ w first g c e, e, q) (record { rest = []; whole = refl })
     last below c e false q =
-        rw (stays-next t t′ w first g c e, e, q)
+        rw (given-next t t′ w first g c e, e, q)
         (record { rest = below c .rest; whole = ap (λ fs. record { pc = even (g .pc); sp = g .sp; place = c .place } ∷ fs) (below c .whole) })
 
     go : ((c : Caller) → Begins (walkFrom t n false (c .regs) .frames) (walkFrom t′ n false (c .regs) .frames)) → (r : Res Caller) → nextFrame first t g ≡ r → Begins (walkFrom t (suc n) first g .frames) (walkFrom t′ (suc n) first g .frames)

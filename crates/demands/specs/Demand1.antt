@@ -3,21 +3,25 @@
 -- for zero." That it takes every report and ends is said by its type: a reader answers every input.
 use Prim.Native.Nat.{ℕ, _+_, _≤_}
 use mathlib.Core.Path.{_≡_}
-use mathlib.Core.Logic.{_≢_}
-use mathlib.Core.List.{List, _++_}
-use mathlib.Core.Bool.{true, _&&_}
-use lib.ListN.{length, take, drop}
+use mathlib.Core.Logic.{_≢_, _⊎_}
+use mathlib.Core.List.{List, [], _∷_, _++_}
+use mathlib.Core.Bool.{Bool, true, false, _&&_, _||_}
+use lib.ListN.{length, take, drop, replicate}
+use lib.Dec.{eqb}
 use Rattle.words.specs.Lent.{Lent}
-use Rattle.words.specs.Refusals.{number}
+use Rattle.words.specs.Refusals.{number, verdictNumber}
 use Rattle.words.specs.declared.Refusal.{Refusal}
 use Rattle.words.specs.declared.Verdict.the-variants as Verdict
 use Rattle.unwinding.specs.Answer.{refuse}
 use Rattle.machine.specs.declared.Regs.{Regs}
 use Rattle.tables.specs.Xdata.{fitXdata}
+use Rattle.tables.specs.declared.Found.the-variants as Found
+use Rattle.tables.specs.declared.Packed.{Packed}
 use Rattle.frame.specs.Frame.{Inputs, fitStack, unwound}
 use Rattle.walking.specs.declared.Frame.{Frame}
 use Rattle.walking.specs.declared.Stop.the-variants as Stop
 use Rattle.walking.specs.declared.WalkedAll.{WalkedAll}
+use Rattle.text.specs.Text.{text}
 use Rattle.demands.specs.Reader.{Reader}
 
 -- the same bytes at the same addresses, with more lent before and after them
@@ -45,20 +49,41 @@ pub record Untouched (lent : List Frame) (w : WalkedAll) : Type 0 where
 abbrev pub Agree : (n : ℕ) → WalkedAll → WalkedAll → Type 0
 Agree n w w′ = (n ≤ w′ .walked .frames) × (take n (w′ .list) ≡ take n (w .list))
 
+-- a number is one of these
+abbrev pub among : List ℕ → ℕ → Bool
+among [] n = false
+among (m ∷ ms) n = eqb n m || among ms n
+
+-- the refusals that are about how much is lent: 1, 5 and 8. An answer that is given has number 0
+abbrev pub ofExtent : ℕ → Bool
+ofExtent n = among (1 ∷ 5 ∷ 8 ∷ []) n
+
+-- both programs print of a file what refusal 14 prints
+abbrev pub Unfit : Reader → (file : List ℕ) → Type 0
+Unfit a file = (a .list file ≡ text "refused 14\n") × (a .show file ≡ text "refused 14\n")
+
 pub record Demand1 (a : Reader) : Type 0 where
-  -- "Each refusal has a number": of one frame 1 to 11, of a walk 1 to 13
+  -- "Each refusal has a number": of one frame 1 to 11, of a walk 1 to 13, of finding 1 to 3
   pub frame-number : (t : Inputs) (g : Regs) (r : Refusal) → a .unwind t g .verdict ≡ Verdict.Refused r → (1 ≤ number r) × (number r ≤ 11)
   pub walk-number : (t : Inputs) (g : Regs) (l : List Frame) (r : Refusal) (pc : ℕ) → a .walk t g l .walked .stop ≡ Stop.Refused r pc → (1 ≤ number r) × (number r ≤ 13)
+  pub find-number : (image : ℕ) (pdata : List ℕ) (pc : ℕ) (r : Refusal) → a .find image pdata pc ≡ Found.Refused r → (1 ≤ number r) × (number r ≤ 3)
+  -- "a refused size, packed word, code byte or list length is 0"
+  pub size-number : (x : Lent) (at : ℕ) (r : Refusal) → a .size x at .verdict ≡ Verdict.Refused r → (among (1 ∷ 4 ∷ 5 ∷ []) (number r) ≡ true) × (a .size x at .bytes ≡ 0)
+  pub word-number : (p : Packed) (r : Refusal) → a .word p .verdict ≡ Verdict.Refused r → (number r ≡ 4) × (a .word p .word ≡ 0)
+  pub codes-number : (w : ℕ) (r : Refusal) → a .codes w .verdict ≡ Verdict.Refused r → (number r ≡ 4) × (a .codes w .bytes ≡ replicate 16 0) × (a .codes w .first .0 ≡ 0) × (a .codes w .second .0 ≡ 0)
   -- it "hands the registers back as they came": with 0 codes, handler 0 and place leaf
   pub given-back : (t : Inputs) (g : Regs) (r : Refusal) → a .unwind t g .verdict ≡ Verdict.Refused r → a .unwind t g ≡ unwound g (refuse r)
   -- it "leaves frame records not yet filled untouched", however the walk stops
   pub untouched : (t : Inputs) (g : Regs) (l : List Frame) → Untouched l (a .walk t g l)
-  -- it "never reads outside", and a word that it cannot read is "never taken for zero": an answer does not change with what lies beyond
-  pub frame-stays : (t t′ : Inputs) (g : Regs) → Wider t t′ → a .unwind t g .verdict ≡ Verdict.Given → a .unwind t′ g ≡ a .unwind t g
-  pub walk-stays : (t t′ : Inputs) (g : Regs) (l : List Frame) → Wider t t′ → ((r : Refusal) (pc : ℕ) → a .walk t g l .walked .stop ≢ Stop.Refused r pc) → a .walk t′ g l ≡ a .walk t g l
-  -- so too for the frames that a walk lists before it is refused
+  -- it "never reads outside", and a word that it cannot read is "never taken for zero": an answer, given or refused by anything
+  -- but how much is lent, does not change with what lies beyond
+  pub frame-stays : (t t′ : Inputs) (g : Regs) → Wider t t′ → ofExtent (verdictNumber (a .unwind t g .verdict)) ≡ false → a .unwind t′ g ≡ a .unwind t g
+  pub walk-stays : (t t′ : Inputs) (g : Regs) (l : List Frame) → Wider t t′ → ((r : Refusal) (pc : ℕ) → a .walk t g l .walked .stop ≡ Stop.Refused r pc → ofExtent (number r) ≡ false) → a .walk t′ g l ≡ a .walk t g l
+  -- so too for the frames that a walk lists before it is refused, by any number
   pub listed-stay : (t t′ : Inputs) (g : Regs) (l : List Frame) → Wider t t′ → Agree (a .walk t g l .walked .frames) (a .walk t g l) (a .walk t′ g l)
-  pub size-stays : (x x′ : Lent) (at : ℕ) → More x x′ → fitXdata x′ ≡ true → a .size x at .verdict ≡ Verdict.Given → a .size x′ at ≡ a .size x at
+  pub size-stays : (x x′ : Lent) (at : ℕ) → More x x′ → fitXdata x′ ≡ true → ofExtent (verdictNumber (a .size x at .verdict)) ≡ false → a .size x′ at ≡ a .size x at
+  -- a report has its parts "and nothing more": cut short, or with more bytes, it is none
+  pub whole-file : (file more : List ℕ) → more ≢ [] → Unfit a file ⊎ Unfit a (file ++ more)
   -- what the programs print fits their buffers
   pub list-fits : (file : List ℕ) → length (a .list file) ≤ 8192
   pub show-fits : (file : List ℕ) → length (a .show file) ≤ 1024
