@@ -3,6 +3,7 @@ pub mod Staying
 pub mod Wider
 pub mod Whole
 pub mod Numbers
+pub mod Finding
 pub mod Ours
 pub mod Refuted
 pub mod Contracts

@@ -1,5 +1,6 @@
 pub mod Reader
 pub mod Contract
 pub mod Demand1
+pub mod FindLaws
 pub mod Demand2
 pub mod Shams
