@@ -3,6 +3,7 @@
 -- Assumes nothing.
 use Prim.Native.Nat.{ℕ, zero, suc, _+_, _-_, _%_, _≤_}
 use mathlib.Core.Path.{_≡_, refl, ap, subst}
+use mathlib.Core.Logic.{_⊎_, inl, inr}
 use mathlib.Core.List.{List, [], _∷_, map}
 use mathlib.Core.Bool.{Bool, true, false, _&&_, _||_, not}
 use mathlib.Core.Option.{Option, none, some}
@@ -45,7 +46,6 @@ use Rattle.tables.specs.Xdata.{fitXdata, recordBytes, scopeCount, shortHead, lo
 use Rattle.tables.specs.Record.{scopesAt, fullShape, packedShape, shapeOf}
 use Rattle.frame.specs.Frame.{Inputs, fitStack, uncovered, within, byRecord, frameOf}
 use Rattle.walking.specs.Walk.{nextFrame}
-use Rattle.demands.specs.Demand1.{among}
 
 pub numbered : (r : Refusal) → 1 ≤ number r
 numbered UnfitInput = omega arith
@@ -247,10 +247,10 @@ not-sized : (x : Res ℕ) (r : Refusal) → sizeAnswer x .verdict ≡ Verdict.Re
 not-sized (ok n) r e = absurd (let z : _≡_ {A = ℕ} 0 1 = cc in omega arith)
 not-sized (refuse q) r e = ap refuse (let z : q ≡ r = cc in z)
 
-pub size-number : (x : Lent) (at : ℕ) (r : Refusal) → sizeAnswer (xdataSize x at) .verdict ≡ Verdict.Refused r → (among (1 ∷ 4 ∷ 5 ∷ []) (number r) ≡ true) × (sizeAnswer (xdataSize x at) .bytes ≡ 0)
+pub size-number : (x : Lent) (at : ℕ) (r : Refusal) → sizeAnswer (xdataSize x at) .verdict ≡ Verdict.Refused r → ((number r ≡ 1) ⊎ (number r ≡ 4) ⊎ (number r ≡ 5)) × (sizeAnswer (xdataSize x at) .bytes ≡ 0)
 size-number x at r e =
     let q = not-sized (xdataSize x at) r e in
-    (only-size (λ k. among (1 ∷ 4 ∷ 5 ∷ []) k ≡ true) refl refl refl x at r q, rw q refl)
+    (only-size (λ k. (k ≡ 1) ⊎ (k ≡ 4) ⊎ (k ≡ 5)) (inl refl) (inr (inl refl)) (inr (inr refl)) x at r q, rw q refl)
 
 abbrev NoWord : Refusal → WordOf → Type 0
 NoWord r a = a .verdict ≡ Verdict.Refused r → (number r ≡ 4) × (a .word ≡ 0)

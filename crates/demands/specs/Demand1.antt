@@ -4,7 +4,7 @@
 use Prim.Native.Nat.{ℕ, _+_, _≤_}
 use mathlib.Core.Path.{_≡_}
 use mathlib.Core.Logic.{_≢_, _⊎_}
-use mathlib.Core.List.{List, [], _∷_, _++_}
+use mathlib.Core.List.{List, [], _++_}
 use mathlib.Core.Bool.{Bool, true, false, _&&_, _||_}
 use lib.ListN.{length, take, drop, replicate}
 use lib.Dec.{eqb}
@@ -49,14 +49,9 @@ pub record Untouched (lent : List Frame) (w : WalkedAll) : Type 0 where
 abbrev pub Agree : (n : ℕ) → WalkedAll → WalkedAll → Type 0
 Agree n w w′ = (n ≤ w′ .walked .frames) × (take n (w′ .list) ≡ take n (w .list))
 
--- a number is one of these
-abbrev pub among : List ℕ → ℕ → Bool
-among [] n = false
-among (m ∷ ms) n = eqb n m || among ms n
-
 -- the refusals that are about how much is lent: 1, 5 and 8. An answer that is given has number 0
 abbrev pub ofExtent : ℕ → Bool
-ofExtent n = among (1 ∷ 5 ∷ 8 ∷ []) n
+ofExtent n = eqb n 1 || eqb n 5 || eqb n 8
 
 -- both programs print of a file what refusal 14 prints
 abbrev pub Unfit : Reader → (file : List ℕ) → Type 0
@@ -68,7 +63,7 @@ pub record Demand1 (a : Reader) : Type 0 where
   pub walk-number : (t : Inputs) (g : Regs) (l : List Frame) (r : Refusal) (pc : ℕ) → a .walk t g l .walked .stop ≡ Stop.Refused r pc → (1 ≤ number r) × (number r ≤ 13)
   pub find-number : (image : ℕ) (pdata : List ℕ) (pc : ℕ) (r : Refusal) → a .find image pdata pc ≡ Found.Refused r → (1 ≤ number r) × (number r ≤ 3)
   -- "a refused size, packed word, code byte or list length is 0"
-  pub size-number : (x : Lent) (at : ℕ) (r : Refusal) → a .size x at .verdict ≡ Verdict.Refused r → (among (1 ∷ 4 ∷ 5 ∷ []) (number r) ≡ true) × (a .size x at .bytes ≡ 0)
+  pub size-number : (x : Lent) (at : ℕ) (r : Refusal) → a .size x at .verdict ≡ Verdict.Refused r → ((number r ≡ 1) ⊎ (number r ≡ 4) ⊎ (number r ≡ 5)) × (a .size x at .bytes ≡ 0)
   pub word-number : (p : Packed) (r : Refusal) → a .word p .verdict ≡ Verdict.Refused r → (number r ≡ 4) × (a .word p .word ≡ 0)
   pub codes-number : (w : ℕ) (r : Refusal) → a .codes w .verdict ≡ Verdict.Refused r → (number r ≡ 4) × (a .codes w .bytes ≡ replicate 16 0) × (a .codes w .first .0 ≡ 0) × (a .codes w .second .0 ≡ 0)
   -- it "hands the registers back as they came": with 0 codes, handler 0 and place leaf
