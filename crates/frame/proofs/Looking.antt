@@ -1,6 +1,6 @@
 -- One epilogue more of the pass, by what a scope's codes come to.
 -- Assumes nothing.
-use Prim.Native.Nat.{ℕ, zero, suc, _+_, _-_, _*_, _≤_, _<_}
+use Prim.Native.Nat.{ℕ, zero, suc, _+_, _-_, _<_}
 use mathlib.Core.Path.{_≡_, refl, sym, ap, ap₂, _∙_}
 use mathlib.Core.List.{List, [], _∷_}
 use mathlib.Core.Bool.{Bool}
@@ -18,7 +18,7 @@ use Rattle.codes.proofs.Sizes.{Measured, scanned-ends, scanned-refused, codes-e
 use Rattle.tables.proofs.Shapes.{scopes-next}
 use Rattle.tables.specs.Plan.{scopeIn, scopesFrom}
 use Rattle.tables.specs.declared.Scopes.{Scopes}
-use Rattle.words.specs.Units.{codeBytes}
+use Rattle.words.specs.Units.{codeBytes, halfwords, halfwordBytes}
 use Rattle.frame.specs.Look.{wayOf, wayRead, see, lookFrom, unseen, noSpot, inSeen, spotOf}
 use Rattle.frame.specs.declared.Way.{Way}
 use Rattle.frame.specs.declared.WayOf.the-variants.{Made, NoWay}
@@ -27,13 +27,12 @@ use Rattle.frame.specs.declared.Looked.the-variants.{All, Bad}
 
 -- the epilogue of a scope, by the pass over its codes
 pub way-made :
-    (s : List ℕ) (span : ℕ) (e : Scope) (h t : ℕ) → scanned (scan s (e .index)) ≡ Ends h t
-    → Made (record { start = startOf (e .start) span (2 * (h + t)); size = 2 * (h + t); condition = e .condition; index = e .index })
-    ≡ wayRead span e (codesAt s (e .index))
-way-made s span e h t q =
+    (s : List ℕ) (span : ℕ) (e : Scope) (h t n : ℕ) → scanned (scan s (e .index)) ≡ Ends h t → n ≡ halfwordBytes (halfwords (h + t))
+    → Made (record { start = startOf (e .start) span n; size = n; condition = e .condition; index = e .index }) ≡ wayRead span e (codesAt s (e .index))
+way-made s span e h t n q z =
     let m = scanned-ends s (e .index) h t q in
-    let n : 2 * (h + t) ≡ total size (scan s (e .index) .list) + 2 * t = omega (arith, m .list-bytes) in
-    ap (λ k. Made (record { start = startOf (e .start) span k; size = k; condition = e .condition; index = e .index })) n
+    let b : n ≡ total size (scan s (e .index) .list) + halfwordBytes (halfwords t) = omega (arith, z, m .list-bytes) in
+    ap (λ k. Made (record { start = startOf (e .start) span k; size = k; condition = e .condition; index = e .index })) b
     ∙ sym (ap (wayRead span e) (codes-end s (e .index) h t q))
 
 pub way-bad : (s : List ℕ) (span : ℕ) (e : Scope) (r : Refusal) → scanned (scan s (e .index)) ≡ Refused r → NoWay r ≡ wayRead span e (codesAt s (e .index))
@@ -78,7 +77,8 @@ module _ (s x : List ℕ) (c : Scopes) (span o : ℕ) (seen : Seen) (k n : ℕ) 
 
 -- the whole pass, once the codes from index 0 are read
 pub spot-made :
-    (s : List ℕ) (span : ℕ) (f : Bool) (scopes : List Scope) (o h t p : ℕ) → scanned (scan s (codeBytes 0)) ≡ Ends h t → p ≡ (if f then 0 else 2 * h)
+    (s : List ℕ) (span : ℕ) (f : Bool) (scopes : List Scope) (o h t p : ℕ) → scanned (scan s (codeBytes 0)) ≡ Ends h t
+    → p ≡ (if f then 0 else halfwordBytes (halfwords h))
     → inSeen s p o (lookFrom s span o (unseen span p) scopes) ≡ spotOf s span f scopes o
 unfolding spotOf
 spot-made s span f scopes o h t p q e =

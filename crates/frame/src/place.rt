@@ -12,16 +12,17 @@ use tables::Plan;
 use unwinding::Scope;
 use unwinding::Start;
 use words::CodeBytes;
+use words::Halfwords;
 use words::Place;
 use words::Refusal;
 use words::Verdict;
 ghost use mathlib.Core.Path.{_≡_};
 ghost use mathlib.Core.Bool.{_&&_, _||_};
-ghost use Prim.Native.Nat.{ℕ, _+_, _-_, _*_, _/_, _^_, _≤_, _<_};
+ghost use Prim.Native.Nat.{ℕ, _+_, _-_, _^_, _≤_, _<_};
 ghost use mathlib.Core.List.{List};
 ghost use lib.ListN.{length};
 ghost use lib.Dec.{leb, ltb};
-ghost use Rattle.words.specs.Units.{codeBytes};
+ghost use Rattle.words.specs.Units.{codeBytes, halfwords, halfwordBytes};
 ghost use Rattle.unwinding.specs.Answer.{if_then_else_};
 ghost use Rattle.unwinding.specs.Shape.{startOf};
 ghost use Rattle.codes.specs.Code.{codesAt, scan as scanOf};
@@ -52,6 +53,14 @@ fn rescan(codes: &[u8], index: CodeBytes, at: CodeBytes, last: Scanned) -> Scann
     codes::scan(codes, index)
 }
 
+// The bytes of so many halfwords of instructions, as a pass counts them.
+fn bytes_of(count: u64) -> u64
+    requires { ⌜ count < 4096 ⌝ }
+    ensures { λ r. ⌜ r ≡ halfwordBytes (halfwords count) ⌝ }
+{
+    words::halfword_bytes(Halfwords(count as u32))
+}
+
 // The epilogue of a scope, by the pass over its codes.
 fn way_of(e: Scope, found: Scanned, span: u64) -> WayOf
     requires { ⌜ ((s : List ℕ) × (length s ≤ 1020) × (found ≡ scanned (scanOf s (e .index)))) × (span < 2 ^ 32) ⌝ }
@@ -61,7 +70,7 @@ fn way_of(e: Scope, found: Scanned, span: u64) -> WayOf
     let start = e.start;
     match found {
         Scanned::Ends(list, end) => {
-            let size = 2 * (list + end);
+            let size = bytes_of(list + end);
             WayOf::Made(Way {
                 start: start_of(start, span, size),
                 size: size,
@@ -286,9 +295,9 @@ fn unseen(span: u64, p: u64) -> Seen
 // The bytes of a prologue whose instructions take so many halfwords; a fragment has none.
 fn prologue_of(fragment: bool, list: u64) -> u64
     requires { ⌜ list < 4096 ⌝ }
-    ensures { λ r. ⌜ r ≡ (if fragment then 0 else 2 * list) ⌝ }
+    ensures { λ r. ⌜ r ≡ (if fragment then 0 else halfwordBytes (halfwords list)) ⌝ }
 {
-    if fragment { 0 } else { 2 * list }
+    if fragment { 0 } else { bytes_of(list) }
 }
 
 // The place of an offset in a record, and the index of the first code that runs there.

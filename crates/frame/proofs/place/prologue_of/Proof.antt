@@ -3,15 +3,16 @@
 use borrow.Author.Needs.{needs}
 use Rattle.frame.proofs.place.prologue_of.Statement.{statement}
 use Rattle.frame.proofs.place.prologue_of.Tie as tie
+use Rattle.frame.proofs.place.bytes_of.Reads as bytes-of-reads
 
-mul-result : tie.Need-mul-result
-mul-result c = search needs
+bytes-of-requires : tie.Need-bytes-of-requires
+bytes-of-requires c κs = search needs
 
 returns : tie.Need-returns
 returns c = simp (c .if1 .taken)
 
 returns-2 : tie.Need-returns-2
-returns-2 c = simp (c .if1 .left)
+returns-2 c = simp (c .before .if1 .left, c .bytes-of .ensures)
 
 pub prologue-of-spec : {M : Type 1} → statement M
-prologue-of-spec = tie.close (tie.spec mul-result returns returns-2)
+prologue-of-spec = tie.close (tie.spec bytes-of-requires returns returns-2)
