@@ -6,4 +6,8 @@ pub mod Numbers
 pub mod Finding
 pub mod Ours
 pub mod Refuted
+pub mod Sizing
+pub mod Later
+pub mod Walks
+pub mod OneWalk
 pub mod Contracts

@@ -1,14 +1,18 @@
 -- Document 01's shams: readers that look like one, and that a demand must break (proofs/Refuted.antt).
-use Prim.Native.Nat.{ℕ, _<_}
+use Prim.Native.Nat.{ℕ, _-_, _<_}
 use mathlib.Core.Path.{_≡_}
 use mathlib.Core.List.{List}
-use lib.ListN.{getD}
+use lib.ListN.{length, getD}
+use lib.Dec.{leb}
+use Rattle.words.specs.Bits.{bit}
+use Rattle.words.specs.Lent.{Lent, wordAt}
 use Rattle.words.specs.declared.Refusal.{Refusal}
-use Rattle.unwinding.specs.Answer.{ok, refuse}
+use Rattle.unwinding.specs.Answer.{ok, refuse, if_then_else_}
 use Rattle.machine.specs.declared.Regs.{Regs}
 use Rattle.frame.specs.Frame.{Inputs, unwound, leafOf}
 use Rattle.frame.specs.declared.Unwound.{Unwound}
 use Rattle.walking.specs.declared.Frame.{Frame}
+use Rattle.walking.specs.declared.WalkedAll.{WalkedAll}
 use Rattle.demands.specs.Reader.{Reader, ours}
 
 -- ours, but for one frame's answer
@@ -40,3 +44,22 @@ abbrev pub Copying : Reader → Type 0
 Copying a =
     (t : Inputs) (g : Regs) (l : List Frame) (none : Frame) (i : ℕ) → i < a .walk t g l .walked .frames
     → getD (a .walk t g l .list) i none ≡ getD (a .walk t g l .list) 0 none
+
+-- ours, but for the walk's answer; its sum of codes invented, or, with room for one frame alone, begun at the caller
+abbrev pub with-walk : (Inputs → Regs → List Frame → WalkedAll) → Reader
+with-walk w =
+    record { find = ours .find; unwind = ours .unwind; walk = w; size = ours .size; word = ours .word; codes = ours .codes; list = ours .list; show = ours .show }
+
+abbrev pub summing : (Inputs → Regs → List Frame → ℕ) → Reader
+summing sum = with-walk (λ t g l. let w = ours .walk t g l in record { walked = record { stop = w .walked .stop; frames = w .walked .frames; codes = sum t g l }; list = w .list })
+
+abbrev pub skipping : Reader
+skipping = with-walk (λ t g l. ours .walk t (if leb (length l) 1 then ours .unwind t g .regs else g) l)
+
+-- ours, but for the bytes of a size; without the handler's word
+abbrev pub resized : (Lent → ℕ → ℕ) → Reader
+resized n =
+    record { find = ours .find; unwind = ours .unwind; walk = ours .walk; size = λ x at. record { verdict = ours .size x at .verdict; bytes = n x at }; word = ours .word; codes = ours .codes; list = ours .list; show = ours .show }
+
+abbrev pub handlerless : Lent → ℕ → ℕ
+handlerless x at = ours .size x at .bytes - (if bit 20 (wordAt x at) then 4 else 0)
