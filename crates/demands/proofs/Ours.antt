@@ -28,6 +28,9 @@ use Rattle.forward.proofs.Framed as Framed
 use Rattle.demands.specs.Reader.{ours}
 use Rattle.demands.specs.Demand1.{Untouched, Agree, ofExtent, Demand1}
 use Rattle.demands.specs.Demand2.{Demand2}
+use Rattle.demands.proofs.Finding.{find-laws}
+use Rattle.demands.proofs.Sizing.{size-laws}
+use Rattle.demands.proofs.Walks.{walk-laws}
 use Rattle.demands.proofs.Staying.{Stays}
 use Rattle.demands.proofs.Wider.{Begins, stays-frame, stays-walk, stays-listed, stays-size}
 use Rattle.demands.proofs.Numbers.{numbered, up-first, up-next, found-number, size-number, word-number, codes-number}
@@ -98,8 +101,19 @@ demand1 = record {
 }
 
 pub demand2 : Demand2 ours
-demand2 =
-    record { record-of = λ i p c. refl; caller = λ t g. refl; callers = λ t g l. refl; bytes = λ x at. refl; word = λ p. refl; codes = λ w. refl; printed = λ s. refl; shown = λ s. refl }
+demand2 = record {
+  record-of = λ i p c. refl;
+  caller = λ t g. refl;
+  callers = λ t g l. refl;
+  bytes = λ x at. refl;
+  word = λ p. refl;
+  codes = λ w. refl;
+  printed = λ s. refl;
+  shown = λ s. refl;
+  finding = find-laws;
+  sizes = size-laws;
+  walks = walk-laws;
+}
 
 pub demand3 : Demand3 (ours .unwind)
 demand3 = Framed.demand3

@@ -1,5 +1,6 @@
 -- Demand 2: "For each .pdata/.xdata record, packed or full, it gives the caller that Microsoft's published rules give, and it writes packed
--- records and their code bytes by the same rules." The rules, as document 01 decides them, are the definitions that `ours` names.
+-- records and their code bytes by the same rules." The rules, as document 01 decides them, are the definitions that `ours` names; a reader
+-- that answers as they do is the only one. Beside it stand laws that say of its answers what the rules are for, without those definitions.
 use Prim.Native.Nat.{ℕ}
 use mathlib.Core.Path.{_≡_}
 use mathlib.Core.List.{List}
@@ -9,6 +10,9 @@ use Rattle.tables.specs.declared.Packed.{Packed}
 use Rattle.frame.specs.Frame.{Inputs}
 use Rattle.walking.specs.declared.Frame.{Frame}
 use Rattle.demands.specs.Reader.{Reader, ours}
+use Rattle.demands.specs.FindLaws.{FindLaws}
+use Rattle.demands.specs.SizeLaws.{SizeLaws}
+use Rattle.demands.specs.WalkLaws.{WalkLaws}
 
 pub record Demand2 (a : Reader) : Type 0 where
   pub record-of : (image : ℕ) (pdata : List ℕ) (pc : ℕ) → a .find image pdata pc ≡ ours .find image pdata pc
@@ -19,3 +23,6 @@ pub record Demand2 (a : Reader) : Type 0 where
   pub codes : (w : ℕ) → a .codes w ≡ ours .codes w
   pub printed : (file : List ℕ) → a .list file ≡ ours .list file
   pub shown : (file : List ℕ) → a .show file ≡ ours .show file
+  pub finding : FindLaws a
+  pub sizes : SizeLaws a
+  pub walks : WalkLaws a
