@@ -10,7 +10,7 @@ use mathlib.Core.Option.{Option, none, some}
 use lib.ListN.{length}
 use lib.Dec.{leb, ltb, eqb}
 use native.Mathlib.Omega.{arith}
-use borrow.Author.Tests.{eqb-true, eqb-false}
+use borrow.Author.Tests.{eqb-true, eqb-false, not-true}
 use Rattle.words.specs.Bits.{even}
 use Rattle.words.specs.Lent.{Lent}
 use Rattle.words.specs.declared.Place.{Place}
@@ -33,6 +33,7 @@ use Rattle.tables.specs.Record.{shapeOf}
 use Rattle.frame.specs.declared.Unwound.{Unwound}
 use Rattle.frame.specs.Frame.{Inputs, Caller, fitStack, returned, leafOf, uncovered, within, byRecord, frameOf, frame, unwound}
 use Rattle.walking.specs.Walk.{nextFrame}
+use Rattle.walking.proofs.Turns.{next-was}
 use Rattle.forward.proofs.Binding.{bind-ok, need-ok}
 use Rattle.demands.specs.WalkLaws as Laws
 
@@ -137,29 +138,18 @@ module _ (t : Inputs) (g : Regs) (n : ℕ) where
     pub moved : 0 < n → alone g .regs .sp ≢ g .sp
 
   pub next-given : (b : Bool) → eqb n 0 ≡ b → (c : Caller) → nextFrame b t g ≡ ok c → Goes c
-  unfolding nextFrame
   next-given true z c q =
-      let u = bind-ok (frameOf true t g) (λ c. need (true || not (eqb (c .regs .sp) (g .sp))) SpSame >> ok c) c q in
-      record { is = ap (unwound g) (u .1 ∙ u .2); covered = λ h. absurd (omega (arith, eqb-true n 0 z)); moved = λ h. absurd (omega (arith, eqb-true n 0 z)) }
-  next-given false z c q =
-      let u = bind-ok (frameOf false t g) (λ c. need (false || not (eqb (c .regs .sp) (g .sp))) SpSame >> ok c) c q in
-      let v = need-ok (not (eqb (u .0 .regs .sp) (g .sp))) SpSame (ok (u .0)) c (u .2) in
-      go (later-frame t g) (u .1 ∙ v .1) (let same : u .0 ≡ c = cc (v .1) in rw same at (v .0))
+      let e = eqb-true n 0 z in
+      record { is = ap (unwound g) (next-was true t g c q .0); covered = λ h. absurd (omega arith); moved = λ h. absurd (omega arith) }
+  next-given false z c q = let u = next-was false t g c q in go (later-frame t g) (u .0) (eqb-false (c .regs .sp) (g .sp) (not-true (eqb (c .regs .sp) (g .sp)) (u .1)))
     where
-      apart : (p q : ℕ) → not (eqb p q) ≡ true → p ≢ q
-      apart p q h = fork (eqb p q) refl h
-        where
-          fork : (b : Bool) → eqb p q ≡ b → not b ≡ true → p ≢ q
-          fork true e k = absurd (let z : _≡_ {A = ℕ} 0 1 = cc in omega arith)
-          fork false e k = eqb-false p q e
-
-      go : Later (frameOf false t g) (frameOf true t g) → frameOf false t g ≡ ok c → not (eqb (c .regs .sp) (g .sp)) ≡ true → Goes c
+      go : Later (frameOf false t g) (frameOf true t g) → frameOf false t g ≡ ok c → c .regs .sp ≢ g .sp → Goes c
       go (refused r x y) e k = absurd (let z : _≡_ {A = ℕ} 0 1 = cc in omega arith)
       go (leaf d p x y) e k = absurd (let z : _≡_ {A = ℕ} 0 1 = cc in omega arith)
       go (covered d p x y) e k =
           let same : d ≡ c = cc in
           let is : alone g ≡ unwound g (ok c) = ap (unwound g) (y ∙ ap ok same) in
-          record { is = is; covered = λ h. rw (is, ← same) p; moved = λ h. rw is (apart (c .regs .sp) (g .sp) k) }
+          record { is = is; covered = λ h. rw (is, ← same) p; moved = λ h. rw is k }
 
   pub next-refused : (b : Bool) → eqb n 0 ≡ b → (r : Refusal) → nextFrame b t g ≡ refuse r → Laws.Why alone g n r
   unfolding nextFrame

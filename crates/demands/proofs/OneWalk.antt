@@ -1,12 +1,15 @@
 -- The walk laws leave one walk to a reader's single frames; and the shams that they break.
 -- Assumes nothing.
-use Prim.Native.Nat.{ℕ, _≤_, _<_}
+use Prim.Native.Nat.{ℕ, _+_, _-_, _≤_, _<_}
 use mathlib.Core.Path.{_≡_, refl, sym, ap, _∙_, subst}
 use mathlib.Core.Logic.{_≢_}
 use mathlib.Core.List.{List, [], _∷_}
+use mathlib.Core.Bool.{Bool, true, false}
 use lib.ListN.{length, getD, take}
-use lib.Seq.{getD-take}
+use lib.Seq.{getD-take, getD-drop, ext-getD}
+use lib.Dec.{ltb}
 use native.Mathlib.Omega.{arith}
+use borrow.Author.Tests.{ltb-true, ltb-false}
 use Rattle.words.specs.Bits.{even}
 use Rattle.words.specs.declared.Place.the-variants.{Leaf, Body}
 use Rattle.words.specs.declared.Refusal.{Refusal}
@@ -21,6 +24,7 @@ use Rattle.walking.specs.declared.Walked.{Walked}
 use Rattle.walking.specs.declared.WalkedAll.{WalkedAll}
 use Rattle.report.proofs.Opened.{opened}
 use Rattle.demands.specs.Reader.{Reader, ours}
+use Rattle.demands.specs.Demand1.{Untouched, Demand1}
 use Rattle.demands.specs.WalkLaws.{reached, codesRun, Why, itself, uncovered, still, Stops, Onward, Follows, WalkLaws}
 use Rattle.demands.specs.Shams.{summing, skipping, Copying}
 use Rattle.demands.proofs.Examples as Example
@@ -93,13 +97,41 @@ module _ (u : Regs → Unwound) (g : Regs) (room : ℕ) where
 room-kept : (a : Reader) → WalkLaws a → (t : Inputs) (g : Regs) (l : List Frame) → a .walk t g l .walked .frames ≤ length l
 room-kept a h t g l = omega (arith, h .less t g l l (omega arith) .frames)
 
--- any two readers that meet the laws and answer each frame alike
-one-walk : (a b : Reader) → WalkLaws a → WalkLaws b → a .unwind ≡ b .unwind → (t : Inputs) (g : Regs) (l : List Frame) → Same (a .walk t g l) (b .walk t g l)
-one-walk a b h k e t g l =
+same-walk : (a b : Reader) → WalkLaws a → WalkLaws b → a .unwind ≡ b .unwind → (t : Inputs) (g : Regs) (l : List Frame) → Same (a .walk t g l) (b .walk t g l)
+same-walk a b h k e t g l =
     one (a .unwind t) g (length l) (a .walk t g l) (b .walk t g l) (h .follows t g l)
     (subst (λ v. Follows (v t) g (length l) (b .walk t g l)) (sym e) (k .follows t g l))
     (room-kept a h t g l)
     (room-kept b k t g l)
+
+-- the records past those that were listed are the lent ones
+abbrev blank : Frame
+blank = record { pc = 0; sp = 0; place = Leaf }
+
+past : (l : List Frame) (w : WalkedAll) → Untouched l w → (i : ℕ) → w .walked .frames ≤ i → getD (w .list) i blank ≡ getD l i blank
+past l w u i h =
+    let k : ℕ = i - w .walked .frames in
+    let e : i ≡ w .walked .frames + k = omega arith in
+    ap (λ j. getD (w .list) j blank) e ∙ sym (getD-drop (w .walked .frames) (w .list) k blank) ∙ ap (λ (s : List Frame). getD s k blank) (u .rest)
+    ∙ getD-drop (w .walked .frames) l k blank
+    ∙ ap (λ j. getD l j blank) (sym e)
+
+whole : (l : List Frame) (w w′ : WalkedAll) → Same w w′ → Untouched l w → Untouched l w′ → w ≡ w′
+whole l w w′ s p q =
+    let lists : w .list ≡ w′ .list = ext-getD blank (w .list) (w′ .list) (p .long ∙ sym (q .long)) (λ i h. at i (ltb i (w .walked .frames)) refl) in
+    ap (λ v. record { walked = v; list = w .list }) (s .walked) ∙ ap (λ v. record { walked = w′ .walked; list = v }) lists
+  where
+    at : (i : ℕ) (b : Bool) → ltb i (w .walked .frames) ≡ b → getD (w .list) i blank ≡ getD (w′ .list) i blank
+    at i true z = s .listed i blank (ltb-true i (w .walked .frames) z)
+    at i false z =
+        let h : w .walked .frames ≤ i = ltb-false i (w .walked .frames) z in
+        past l w p i h ∙ sym (past l w′ q i (omega (arith, ap (λ v. v .frames) (s .walked))))
+
+-- any two readers that meet these laws and demand 1 and answer each frame alike give one walk, with its whole list
+pub one-walk : (a b : Reader) → WalkLaws a → WalkLaws b → Demand1 a → Demand1 b → a .unwind ≡ b .unwind
+    → (t : Inputs) (g : Regs) (l : List Frame) → a .walk t g l ≡ b .walk t g l
+one-walk a b h k d f e t g l =
+    whole l (a .walk t g l) (b .walk t g l) (same-walk a b h k e t g l) (d .untouched t g l) (f .untouched t g l)
 
 -- ---- a sum of codes that is not the frames'
 no-summing : (sum : Inputs → Regs → List Frame → ℕ) (t : Inputs) (g : Regs) (l : List Frame) → sum t g l ≢ ours .walk t g l .walked .codes
@@ -107,9 +139,6 @@ no-summing : (sum : Inputs → Regs → List Frame → ℕ) (t : Inputs) (g : Re
 no-summing sum t g l n h = n (h .follows t g l .codes ∙ sym (walk-laws .follows t g l .codes))
 
 -- ---- the same frame again, by a reader that answers single frames as ours does
-abbrev blank : Frame
-blank = record { pc = 0; sp = 0; place = Leaf }
-
 abbrev lent : List Frame
 lent = blank ∷ blank ∷ []
 
@@ -125,7 +154,7 @@ no-copying : (a : Reader) → WalkLaws a → a .unwind ≡ ours .unwind → Copy
 unfolding reached
 no-copying a h e c =
     let w : WalkedAll = a .walk Example.inputs Example.given lent in
-    let n : 1 < w .walked .frames = omega (arith, ap (λ v. v .frames) (one-walk a ours h walk-laws e Example.inputs Example.given lent .walked), two-frames) in
+    let n : 1 < w .walked .frames = omega (arith, ap (λ v. v .frames) (same-walk a ours h walk-laws e Example.inputs Example.given lent .walked), two-frames) in
     let shown = h .follows Example.inputs Example.given lent .shown in
     let pc : a .unwind Example.inputs Example.given .regs .pc ≡ 0x00402010 = ap (λ u. u Example.inputs Example.given .regs .pc) e ∙ caller-pc in
     let z : even (a .unwind Example.inputs Example.given .regs .pc) ≡ 0x00401002

@@ -45,7 +45,8 @@ Copying a =
     (t : Inputs) (g : Regs) (l : List Frame) (none : Frame) (i : ℕ) → i < a .walk t g l .walked .frames
     → getD (a .walk t g l .list) i none ≡ getD (a .walk t g l .list) 0 none
 
--- ours, but for the walk's answer; its sum of codes invented, or, with room for one frame alone, begun at the caller
+-- More, that the laws of walks and of sizes break (proofs/OneWalk.antt, proofs/Sizing.antt). Ours, but for the walk: its sum of codes
+-- invented; begun at the caller where there is room for one frame alone
 abbrev pub with-walk : (Inputs → Regs → List Frame → WalkedAll) → Reader
 with-walk w =
     record { find = ours .find; unwind = ours .unwind; walk = w; size = ours .size; word = ours .word; codes = ours .codes; list = ours .list; show = ours .show }
@@ -56,7 +57,7 @@ summing sum = with-walk (λ t g l. let w = ours .walk t g l in record { walked =
 abbrev pub skipping : Reader
 skipping = with-walk (λ t g l. ours .walk t (if leb (length l) 1 then ours .unwind t g .regs else g) l)
 
--- ours, but for the bytes of a size; without the handler's word
+-- ours, but for the bytes of a size: those without the handler's word
 abbrev pub resized : (Lent → ℕ → ℕ) → Reader
 resized n =
     record { find = ours .find; unwind = ours .unwind; walk = ours .walk; size = λ x at. record { verdict = ours .size x at .verdict; bytes = n x at }; word = ours .word; codes = ours .codes; list = ours .list; show = ours .show }
