@@ -18,13 +18,13 @@ pub fn least(cases: u64) -> u64 {
     cases * 50 / 20_000
 }
 
-struct Group {
+pub struct Group {
     title: &'static str,
     classes: Vec<(String, u64)>,
 }
 
 impl Group {
-    fn new(title: &'static str, classes: impl IntoIterator<Item = impl ToString>) -> Group {
+    pub fn new(title: &'static str, classes: impl IntoIterator<Item = impl ToString>) -> Group {
         let classes = classes.into_iter().map(|class| (class.to_string(), 0)).collect();
         Group { title, classes }
     }
@@ -73,7 +73,11 @@ impl Histogram {
         }
     }
 
-    fn count(&mut self, title: &str, class: &str) {
+    pub fn of(groups: Vec<Group>) -> Histogram {
+        Histogram { groups }
+    }
+
+    pub fn count(&mut self, title: &str, class: &str) {
         let group = self.groups.iter_mut().find(|group| group.title == title);
         let group = group.unwrap_or_else(|| panic!("no group {title}"));
         let class = match group.classes.iter_mut().find(|(name, _)| name == class) {
@@ -197,7 +201,7 @@ const ROWS: [(u8, &str); 17] = [
     (0xff, "FC"),
 ];
 
-fn row(code: u8) -> &'static str {
+pub fn row(code: u8) -> &'static str {
     let found = ROWS.iter().find(|(last, _)| code <= *last);
     found.map_or("", |(_, name)| name)
 }

@@ -2,6 +2,9 @@
 
 mod aims;
 mod answers;
+mod ask_find;
+mod ask_packed;
+mod ask_size;
 mod case;
 mod chain;
 mod damage;
@@ -20,6 +23,7 @@ mod options;
 mod packed;
 mod processor;
 mod records;
+mod requests;
 mod rng;
 mod samples;
 mod scene;
@@ -48,6 +52,10 @@ const USAGE: &str = "\
 usage: cases generate --seed S --cases N        reports, each preceded by its length
        cases one --seed S --number K            one report of those
        cases histogram --seed S --cases N       what they meet, and whether known answers are given
+       cases requests --seed S --cases N        requests to the operations, each preceded by its length
+       cases request --seed S --cases N --number K
+                                                one of those, as text
+       cases requested --seed S --cases N       what they meet, and whether known answers are given
        cases examples DIR                       reports with their answers, also odd inputs
        cases truth JSONL WALKS CALLERS          real reports: the answers against the truth
        cases stored REAL CRATES --seed S        the inputs stored with the programs
@@ -84,6 +92,9 @@ fn run() -> Result<bool, String> {
         ["generate"] => generate(&options),
         ["one"] => print_bytes(&families::case(options.seed, options.number).report),
         ["histogram"] => count_classes(&options),
+        ["requests"] => write_requests(&options),
+        ["request"] => show_request(&options),
+        ["requested"] => count_requests(&options),
         ["examples", folder] => write_examples(Path::new(folder)),
         ["truth", truth, walks, callers] => check_truth(truth, walks, callers),
         ["stored", real, crates] => write_stored(&options, real, Path::new(crates)),
@@ -151,12 +162,42 @@ fn count_classes(options: &Options) -> Result<bool, String> {
             None => {}
         }
     }
+    Ok(show_classes(options, &histogram, confirmed, &wrong))
+}
+
+/// Whether every class was met often enough and no known answer was missed.
+fn show_classes(options: &Options, histogram: &Histogram, known: u64, wrong: &[String]) -> bool {
     print!("{histogram}");
-    println!("answers known beforehand: {confirmed} given, {} not", wrong.len());
+    println!("answers known beforehand: {known} given, {} not", wrong.len());
     wrong.iter().take(SHOWN).for_each(|line| println!("{line}"));
     let rare = histogram.rare(least(options.cases));
     rare.iter().for_each(|class| println!("met too seldom: {class}"));
-    Ok(wrong.is_empty() && rare.is_empty())
+    wrong.is_empty() && rare.is_empty()
+}
+
+fn write_requests(options: &Options) -> Result<bool, String> {
+    let mut framed = Vec::new();
+    for request in requests::all(options.seed, options.cases) {
+        framing::frame(&mut framed, &request.bytes);
+    }
+    print_bytes(&framed)
+}
+
+fn show_request(options: &Options) -> Result<bool, String> {
+    let request = requests::all(options.seed, options.cases).nth(options.number as usize);
+    let request = request.ok_or_else(|| format!("no request {}", options.number))?;
+    println!("{}, words and what is left of the last:", request.kind);
+    request.bytes.chunks(4).for_each(|word| {
+        let bytes: String = word.iter().rev().map(|byte| format!("{byte:02x}")).collect();
+        print!(" {bytes}");
+    });
+    println!("\nthe peer answers {}", peer::operations::answer(&request.bytes).unwrap_or_default());
+    Ok(true)
+}
+
+fn count_requests(options: &Options) -> Result<bool, String> {
+    let (histogram, known, wrong) = requests::count(options.seed, options.cases);
+    Ok(show_classes(options, &histogram, known, &wrong))
 }
 
 fn write_vectors(folder: &Path, name: &str, vectors: &Vectors) -> Result<(), String> {

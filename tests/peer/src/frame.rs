@@ -70,8 +70,7 @@ fn check_parts(around: &Surroundings) -> Result<(), Refusal> {
         && around.stack.base.is_multiple_of(4)
         && around.stack.bytes.len().is_multiple_of(4)
         && around.stack.end() <= TOP - 4
-        && around.xdata.rva.is_multiple_of(4)
-        && around.xdata.end() <= TOP;
+        && around.xdata.fits();
     if fit {
         Ok(())
     } else {

@@ -20,6 +20,12 @@ impl<'a> Xdata<'a> {
         u64::from(self.rva) + self.bytes.len() as u64
     }
 
+    /// An RVA that is a multiple of 4, and an end that is an RVA or just past the last.
+    pub fn fits(&self) -> bool {
+        const TOP: u64 = 1 << 32;
+        self.rva.is_multiple_of(4) && self.end() <= TOP
+    }
+
     /// The lent bytes from `rva` on.
     fn from(&self, rva: u32) -> Result<&'a [u8], Refusal> {
         rva.checked_sub(self.rva)
@@ -118,10 +124,25 @@ pub struct Full<'a> {
 }
 
 impl<'a> Full<'a> {
-    pub fn read(xdata: &Xdata<'a>, rva: u32) -> Result<Full<'a>, Refusal> {
+    /// The header, and the record's bytes, all of which are lent.
+    fn whole(xdata: &Xdata<'a>, rva: u32) -> Result<(Header, &'a [u8]), Refusal> {
         let bytes = xdata.from(rva)?;
         let header = Header::read(bytes)?;
         let record = bytes.get(..header.record_bytes()).ok_or(Refusal::OutsideXdata)?;
+        Ok((header, record))
+    }
+
+    /// The bytes of the record at `rva`, whose low two bits do not count. Res is not looked at.
+    pub fn size(xdata: &Xdata<'a>, rva: u32) -> Result<usize, Refusal> {
+        if !xdata.fits() {
+            return Err(Refusal::Parts);
+        }
+        let (_, record) = Full::whole(xdata, rva & !3)?;
+        Ok(record.len())
+    }
+
+    pub fn read(xdata: &Xdata<'a>, rva: u32) -> Result<Full<'a>, Refusal> {
+        let (header, record) = Full::whole(xdata, rva)?;
         let (scopes, rest) = record[header.size..].split_at(header.scope_bytes());
         let (codes, rest) = rest.split_at(header.code_bytes());
         Ok(Full {

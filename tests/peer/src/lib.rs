@@ -2,16 +2,19 @@
 //! proved programs can be compared with something that is not built like them.
 //!
 //! It has no tables: codes are told apart by mask and value, a packed record becomes instructions
-//! without passing through code bytes, and a pc finds its place by laying instructions end to end.
+//! without passing through code bytes, which are written from the instructions, and a pc finds its
+//! place by laying instructions end to end.
 //! Offsets, lengths and sizes are bytes throughout, held in 64 bits so that no sum wraps.
 
 pub mod batch;
 pub mod bits;
 pub mod codes;
+pub mod encode;
 pub mod frame;
 pub mod full;
 pub mod function;
 pub mod machine;
+pub mod operations;
 pub mod packed;
 pub mod pdata;
 pub mod refusal;

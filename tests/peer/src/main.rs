@@ -1,13 +1,16 @@
-//! The four programs of the comparison, chosen by the first argument.
+//! The programs of the comparison, chosen by the first argument.
 
 use std::io::{self, BufReader, BufWriter, Read, Write};
 use std::process::ExitCode;
 
 use peer::batch::answer_all;
+use peer::operations;
 use peer::report::LONGEST;
 use peer::text::{caller, listing};
 
-const USAGE: &str = "usage: peer walk|caller|walk_many|caller_many < REPORTS";
+const USAGE: &str = "\
+usage: peer walk|caller|walk_many|caller_many < REPORTS
+       peer operations < REQUESTS";
 
 fn main() -> ExitCode {
     let program = std::env::args().nth(1).unwrap_or_default();
@@ -16,6 +19,7 @@ fn main() -> ExitCode {
         "caller" => answer_one(caller),
         "walk_many" => answer_many(listing),
         "caller_many" => answer_many(caller),
+        "operations" => answer_operations(),
         _ => Err(io::Error::new(io::ErrorKind::InvalidInput, USAGE)),
     };
     match result {
@@ -36,4 +40,10 @@ fn answer_one(answer: fn(&[u8]) -> String) -> io::Result<()> {
 
 fn answer_many(answer: fn(&[u8]) -> String) -> io::Result<()> {
     answer_all(BufReader::new(io::stdin().lock()), BufWriter::new(io::stdout().lock()), answer)
+}
+
+fn answer_operations() -> io::Result<()> {
+    let mut requests = Vec::new();
+    io::stdin().lock().read_to_end(&mut requests)?;
+    operations::answer_all(&requests, BufWriter::new(io::stdout().lock()))
 }

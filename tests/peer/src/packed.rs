@@ -1,12 +1,13 @@
 //! Packed records: the second .pdata word tells the whole canonical function.
 //!
 //! The instructions are made from the fields, as the compiler writes them, and their sizes from what
-//! Thumb can encode in 16 bits; no code bytes are involved.
+//! Thumb can encode in 16 bits. Code bytes, if they are asked for, are made from the instructions.
 
 use std::rc::Rc;
 
 use crate::bits::{bit, field};
 use crate::codes::Sequence;
+use crate::encode::encode;
 use crate::function::{Epilogue, Function};
 use crate::machine::{Instruction, Undo, LR};
 use crate::refusal::Refusal;
@@ -25,6 +26,9 @@ pub struct Packed {
     pub c: bool,
     pub stack_adjust: u32,
 }
+
+/// Bits of the fields from bit 0 up: Flag, length/2, Ret, H, Reg, R, L, C, Stack Adjust.
+const WIDTHS: [u32; 9] = [2, 11, 2, 1, 3, 1, 1, 1, 10];
 
 impl Packed {
     /// Refuses what the format reserves. `word` has a Flag other than 0.
@@ -50,12 +54,45 @@ impl Packed {
         Ok(packed)
     }
 
+    /// A word that has to be a packed one: Flag 0, which tells of a full record, is refused too.
+    pub fn only(word: u32) -> Result<Packed, Refusal> {
+        if field(word, 0, 1) == 0 {
+            return Err(Refusal::Reserved);
+        }
+        Packed::read(word)
+    }
+
+    /// The word of fields in the order of their bits, lowest first.
+    pub fn write(fields: [u32; 9]) -> Result<u32, Refusal> {
+        let mut word = 0;
+        let mut low = 0;
+        for (value, width) in fields.into_iter().zip(WIDTHS) {
+            if value >> width != 0 {
+                return Err(Refusal::Reserved);
+            }
+            word |= value << low;
+            low += width;
+        }
+        Packed::only(word)?;
+        Ok(word)
+    }
+
+    /// The codes of the prologue, the last instruction's first, and of the epilogue, if any.
+    pub fn codes(&self) -> [Vec<u8>; 2] {
+        let second = if self.ret == 3 { Vec::new() } else { encode(&self.epilogue()) };
+        [encode(&self.undo_prologue()), second]
+    }
+
+    fn undo_prologue(&self) -> Sequence {
+        let mut instructions = self.prologue();
+        instructions.reverse();
+        Sequence { instructions, leave: 0 }
+    }
+
     pub fn function(&self) -> Result<Function, Refusal> {
-        let mut undo = self.prologue();
-        undo.reverse();
         Ok(Function {
             length: self.length,
-            body: Rc::new(Sequence { instructions: undo, leave: 0 }),
+            body: Rc::new(self.undo_prologue()),
             fragment: self.fragment,
             epilogues: self.epilogue_at_end()?,
             handler: 0,

@@ -5,6 +5,8 @@ use crate::refusal::Refusal;
 
 #[derive(Clone, Copy, Debug, PartialEq, Eq)]
 pub struct Entry {
+    /// Its place in the table, from 0.
+    pub number: usize,
     /// RVA of the function's first byte; bit 0, the Thumb mark, is cleared.
     pub start: u32,
     /// A packed record, or the RVA of a full one.
@@ -12,8 +14,8 @@ pub struct Entry {
 }
 
 fn entries(pdata: &[u8]) -> impl Iterator<Item = Entry> + '_ {
-    pdata.chunks_exact(8).filter_map(|record| {
-        Some(Entry { start: word_at(record, 0)? & !1, word: word_at(record, 4)? })
+    pdata.chunks_exact(8).enumerate().filter_map(|(number, record)| {
+        Some(Entry { number, start: word_at(record, 0)? & !1, word: word_at(record, 4)? })
     })
 }
 
