@@ -1,5 +1,7 @@
 -- What was found, told. Assumes nothing.
+use mathlib.Core.Path.{ap, _∙_}
 use borrow.Author.Needs.{needs}
+use Rattle.exports.specs.Numbers.{foundNumbers, foundRefusal}
 use Rattle.exports.proofs.leafbobbin_find.Statement.{statement}
 use Rattle.exports.proofs.leafbobbin_find.Tie as tie
 
@@ -10,7 +12,9 @@ tell-requires : tie.Need-tell-requires
 tell-requires c κs = search needs
 
 returns : tie.Need-returns
-returns c = (cc, cc)
+returns c =
+    let e = c .before .before .find .ensures in
+    (c .before .tell .ensures .0 ∙ ap foundRefusal e, c .before .tell .ensures .1 ∙ ap foundNumbers e)
 
 pub leafbobbin-find-spec : {M : Type 1} → statement M
 leafbobbin-find-spec = tie.close (tie.spec find-requires tell-requires returns)
