@@ -8,7 +8,7 @@ use Rattle.words.specs.declared.Verdict.{Verdict}
 use Rattle.words.specs.declared.Verdict.the-variants.{Given, Refused}
 use Rattle.unwinding.specs.Answer.{Res, ok, refuse, _>>=_}
 use Rattle.machine.specs.Run.{ran}
-use Rattle.machine.specs.Answers.{loaded, loadedTwo, came, Counted, stepped}
+use Rattle.machine.specs.Answers.{loaded, loadedTwo, came, Counted}
 use Rattle.machine.specs.declared.Loaded.the-variants as Loads
 use Rattle.machine.specs.declared.LoadedTwo.the-variants as Two
 use Rattle.machine.specs.declared.Regs.{Regs}
@@ -46,9 +46,6 @@ pub came-refused : (v : Verdict) (h : Regs) (x : Res Regs) (r : Refusal) → cam
 came-refused v h x r e g = sym e ∙ ap (λ w. came w h) g
 
 -- what came of it in place, given back
-pub came-stepped : (g h : Regs) (v : Verdict) (x : Res Regs) → came v h ≡ x → v ≡ Given → record { verdict = Given; regs = h } ≡ stepped g x
-came-stepped g h v x e given = sym (ap (stepped g) (came-given v h x e given))
-
 pub came-ran :
     (g h : Regs) (v : Verdict) (m n : ℕ) (x : Res Regs) → came v h ≡ x → Counted v m n → v ≡ Given
     → record { verdict = Given; regs = h; codes = m } ≡ ran g n x

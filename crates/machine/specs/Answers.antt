@@ -10,7 +10,6 @@ use Rattle.machine.specs.declared.Loaded.{Loaded}
 use Rattle.machine.specs.declared.Loaded.the-variants as Loads
 use Rattle.machine.specs.declared.LoadedTwo.{LoadedTwo}
 use Rattle.machine.specs.declared.LoadedTwo.the-variants as Two
-use Rattle.machine.specs.declared.Stepped.{Stepped}
 
 abbrev pub loaded : Res ℕ → Loaded
 loaded (ok w) = Loads.Word w
@@ -33,8 +32,3 @@ came (Refused r) h = refuse r
 pub record Counted (v : Verdict) (codes n : ℕ) : Type 0 where
   pub most : codes ≤ n
   pub all : v ≡ Given → codes ≡ n
-
--- a refusal gives back the given registers
-abbrev pub stepped : (g : Regs) → Res Regs → Stepped
-stepped g (ok h) = record { verdict = Given; regs = h }
-stepped g (refuse r) = record { verdict = Refused r; regs = g }

@@ -16,7 +16,7 @@ ghost use Rattle.words.specs.Lent.{lent};
 ghost use Rattle.unwinding.specs.Answer.{refuse, if_then_else_};
 ghost use Rattle.codes.specs.Code.{scan};
 ghost use Rattle.machine.specs.Step.{stands as standsOf, load as loadOf, pop as popOf, vpop as vpopOf, effect as effectOf, step as stepOf};
-ghost use Rattle.machine.specs.Answers.{loaded, loadedTwo, regs, came, Counted, stepped};
+ghost use Rattle.machine.specs.Answers.{loaded, loadedTwo, regs, came, Counted};
 ghost use Rattle.machine.specs.Run.{runAt, ran};
 
 // r0-r12, SP, LR, pc and d0-d31.
@@ -63,12 +63,6 @@ struct Ended {
     sp: u32,
     lr: u32,
     codes: usize,
-}
-
-// What one code came to. A refusal gives back the given registers.
-pub struct Stepped {
-    pub verdict: Verdict,
-    pub regs: Regs,
 }
 
 // What running a code list came to. A refusal gives back the given registers and 0 codes.
@@ -307,32 +301,6 @@ fn undo_one(
         verdict: Verdict::Refused(Refusal::BadStack),
         sp,
         lr,
-    }
-}
-
-// One code, after which SP must stand in the stack. A refusal gives back the given registers.
-pub fn step(code: Code, g: Regs, base: u32, stack: &[u8]) -> Stepped
-    ensures { λ r. ⌜ r ≡ stepped g (stepOf (lent base (now (stack .entry))) code g) ⌝ }
-{
-    let mut r = g.r;
-    let mut d = g.d;
-    let u = undo_one(code, &mut r, &mut d, g.sp, g.lr, base, stack);
-    let verdict = u.verdict;
-    if let Verdict::Refused(why) = verdict {
-        return Stepped {
-            verdict: Verdict::Refused(why),
-            regs: g,
-        };
-    }
-    Stepped {
-        verdict: Verdict::Given,
-        regs: Regs {
-            r,
-            sp: u.sp,
-            lr: u.lr,
-            pc: g.pc,
-            d,
-        },
     }
 }
 

@@ -4,7 +4,7 @@ ghost use mathlib.Core.Path.{_≡_};
 ghost use Prim.Native.Nat.{_+_, _<_, _≤_};
 ghost use lib.ListN.{length, getD};
 ghost use Rattle.words.specs.Bits.{even as evenOf};
-ghost use Rattle.words.specs.Little.{word16 as word16Of, word32 as word32Of, word64 as word64Of};
+ghost use Rattle.words.specs.Little.{word32 as word32Of, word64 as word64Of};
 ghost use Rattle.words.specs.Lent.{Lent, lent, holds as holdsOf, wordAt};
 ghost use Rattle.words.specs.Units.{halfwordBytes, stackBytes, codeWordBytes};
 ghost use Rattle.words.specs.Refusals.{number as numberOf, verdictNumber};
@@ -131,12 +131,6 @@ fn word32_after(s: &[u8], at: usize, k: usize) -> u32
 }
 
 // The little-endian words at an offset. Whoever takes one for a word of the input has tested that its bytes are there.
-pub fn word16(s: &[u8], at: usize) -> u32
-    ensures { λ r. ⌜ (r ≡ word16Of (now (s .entry)) at) × (r < 65536) ⌝ }
-{
-    byte_after(s, at, 0) + 256 * byte_after(s, at, 1)
-}
-
 pub fn word32(s: &[u8], at: usize) -> u32
     ensures { λ r. ⌜ r ≡ word32Of (now (s .entry)) at ⌝ }
 {
