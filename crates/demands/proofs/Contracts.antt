@@ -18,6 +18,7 @@ use prog.Routine.{Routine}
 use prog.Wp.{Heap}
 use denote.Triple.Clauses.{AtExit}
 use Rattle.words.specs.Lent.{lent}
+use Rattle.words.specs.Refusals.{verdictNumber}
 use Rattle.frame.specs.Frame.{Inputs, inputs}
 use Rattle.walking.specs.Walk.{Trail, walk, walked, filled, walkedAll}
 use Rattle.walking.specs.declared.WalkedAll.{WalkedAll}
@@ -46,6 +47,15 @@ use Rattle.exports.proofs.leafbobbin_walk.Kinds as CWalk·kinds
 use Rattle.exports.proofs.leafbobbin_walk.Reads as CWalk
 use Rattle.exports.proofs.leafbobbin_caller.Kinds as CCaller·kinds
 use Rattle.exports.proofs.leafbobbin_caller.Reads as CCaller
+use Rattle.exports.proofs.leafbobbin_find.Kinds as CFind·kinds
+use Rattle.exports.proofs.leafbobbin_find.Reads as CFind
+use Rattle.exports.proofs.leafbobbin_size.Kinds as CSize·kinds
+use Rattle.exports.proofs.leafbobbin_size.Reads as CSize
+use Rattle.exports.proofs.leafbobbin_word.Kinds as CWord·kinds
+use Rattle.exports.proofs.leafbobbin_word.Reads as CWord
+use Rattle.exports.proofs.leafbobbin_codes.Kinds as CCodes·kinds
+use Rattle.exports.proofs.leafbobbin_codes.Reads as CCodes
+use Rattle.exports.specs.Numbers.{foundNumbers, foundRefusal, fieldsIn, lengths}
 use Rattle.forward.specs.State.{State}
 use Rattle.forward.specs.Demand.{Asked, Answer, Demand3}
 use Rattle.forward.proofs.Memory.{outside-same}
@@ -176,6 +186,43 @@ c-caller-gives κs a z e p = p
 
 pub c-caller-unique : Unique c-caller
 c-caller-unique = unique c-caller _ _ c-caller-gives
+
+-- ---- the operations on tables, for C: a refusal's number or 0, and the answer in what is lent
+abbrev pub c-find : Contract
+c-find = record { lifetimes = 2; params = CFind·kinds.ps; result = CFind·kinds.r; asks = CFind.Asked; free = λ κs a. tt; allows = CFind.Learnt; Left = List ℕ; left = λ κs e. now (e .1 .1 .1 .0) }
+
+pub c-find-gives : Gives c-find (λ κs a. foundRefusal (ours .find (a .0) (now (a .1 .0)) (a .1 .1 .0))) (λ κs a. foundNumbers (ours .find (a .0) (now (a .1 .0)) (a .1 .1 .0)))
+c-find-gives κs a z e p = p
+
+pub c-find-unique : Unique c-find
+c-find-unique = unique c-find _ _ c-find-gives
+
+abbrev pub c-size : Contract
+c-size = record { lifetimes = 2; params = CSize·kinds.ps; result = CSize·kinds.r; asks = CSize.Asked; free = λ κs a. tt; allows = CSize.Learnt; Left = ℕ; left = λ κs e. now (e .1 .1 .1 .0) }
+
+pub c-size-gives : Gives c-size (λ κs a. verdictNumber (ours .size (lent (a .0) (now (a .1 .0))) (a .1 .1 .0) .verdict)) (λ κs a. ours .size (lent (a .0) (now (a .1 .0))) (a .1 .1 .0) .bytes)
+c-size-gives κs a z e p = p
+
+pub c-size-unique : Unique c-size
+c-size-unique = unique c-size _ _ c-size-gives
+
+abbrev pub c-word : Contract
+c-word = record { lifetimes = 2; params = CWord·kinds.ps; result = CWord·kinds.r; asks = CWord.Asked; free = λ κs a. tt; allows = CWord.Learnt; Left = ℕ; left = λ κs e. now (e .1 .0) }
+
+pub c-word-gives : Gives c-word (λ κs a. verdictNumber (ours .word (fieldsIn (now (a .0))) .verdict)) (λ κs a. ours .word (fieldsIn (now (a .0))) .word)
+c-word-gives κs a z e p = p
+
+pub c-word-unique : Unique c-word
+c-word-unique = unique c-word _ _ c-word-gives
+
+abbrev pub c-codes : Contract
+c-codes = record { lifetimes = 2; params = CCodes·kinds.ps; result = CCodes·kinds.r; asks = CCodes.Asked; free = λ κs a. tt; allows = CCodes.Learnt; Left = List ℕ × List ℕ; left = λ κs e. (now (e .1 .0), now (e .1 .1 .0)) }
+
+pub c-codes-gives : Gives c-codes (λ κs a. verdictNumber (ours .codes (a .0) .verdict)) (λ κs a. (ours .codes (a .0) .bytes, lengths (ours .codes (a .0))))
+c-codes-gives κs a z e p = (p .0, rw (p .1, p .2) refl)
+
+pub c-codes-unique : Unique c-codes
+c-codes-unique = unique c-codes _ _ c-codes-gives
 
 -- ---- the walk into a lent list of records, by the clause that its code is proved to meet
 abbrev of-args : (κs : Lfts 4) → Args Walk.signature κs → Trail
