@@ -23,7 +23,8 @@ use Rattle.tables.specs.declared.Found.the-variants.{Record, Nothing, Refused}
 use Rattle.tables.proofs.Finding.{startAt}
 use Rattle.report.proofs.Opened.{opened}
 use Rattle.demands.specs.Reader.{ours}
-use Rattle.demands.specs.FindLaws.{Greatest, FindLaws, first-only}
+use Rattle.demands.specs.FindLaws.{Greatest, FindLaws}
+use Rattle.demands.specs.Shams.{first-only}
 use Rattle.demands.proofs.Examples as Example
 
 abbrev Ascends : List ℕ → (i n : ℕ) → Type 0

@@ -10,4 +10,5 @@ pub mod Sizing
 pub mod Later
 pub mod Walks
 pub mod OneWalk
+pub mod Packing
 pub mod Contracts

@@ -30,6 +30,7 @@ use Rattle.demands.specs.Demand1.{Untouched, Agree, ofExtent, Demand1}
 use Rattle.demands.specs.Demand2.{Demand2}
 use Rattle.demands.proofs.Finding.{find-laws}
 use Rattle.demands.proofs.Sizing.{size-laws}
+use Rattle.demands.proofs.Packing.{packed-laws}
 use Rattle.demands.proofs.Walks.{walk-laws}
 use Rattle.demands.proofs.Staying.{Stays}
 use Rattle.demands.proofs.Wider.{Begins, stays-frame, stays-walk, stays-listed, stays-size}
@@ -112,6 +113,7 @@ demand2 = record {
   shown = λ s. refl;
   finding = find-laws;
   sizes = size-laws;
+  packed = packed-laws;
   walks = walk-laws;
 }
 

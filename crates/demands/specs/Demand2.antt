@@ -12,6 +12,7 @@ use Rattle.walking.specs.declared.Frame.{Frame}
 use Rattle.demands.specs.Reader.{Reader, ours}
 use Rattle.demands.specs.FindLaws.{FindLaws}
 use Rattle.demands.specs.SizeLaws.{SizeLaws}
+use Rattle.demands.specs.PackedLaws.{PackedLaws}
 use Rattle.demands.specs.WalkLaws.{WalkLaws}
 
 pub record Demand2 (a : Reader) : Type 0 where
@@ -25,4 +26,5 @@ pub record Demand2 (a : Reader) : Type 0 where
   pub shown : (file : List ℕ) → a .show file ≡ ours .show file
   pub finding : FindLaws a
   pub sizes : SizeLaws a
+  pub packed : PackedLaws a
   pub walks : WalkLaws a

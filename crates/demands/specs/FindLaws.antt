@@ -2,12 +2,12 @@
 use Prim.Native.Nat.{ℕ, _+_, _/_, _≤_, _<_}
 use mathlib.Core.Path.{_≡_}
 use mathlib.Core.List.{List}
-use lib.ListN.{length, take}
+use lib.ListN.{length}
 use Rattle.words.specs.Bits.{even}
 use Rattle.tables.specs.Pdata.{entryAt}
 use Rattle.tables.specs.declared.Entry.{Entry}
 use Rattle.tables.specs.declared.Found.the-variants.{Record, Nothing}
-use Rattle.demands.specs.Reader.{Reader, ours}
+use Rattle.demands.specs.Reader.{Reader}
 
 -- the table's record of its number, which starts at or below the pc, and no record starts between them
 pub record Greatest (image : ℕ) (s : List ℕ) (pc : ℕ) (e : Entry) : Type 0 where
@@ -19,8 +19,3 @@ pub record Greatest (image : ℕ) (s : List ℕ) (pc : ℕ) (e : Entry) : Type 0
 pub record FindLaws (a : Reader) : Type 0 where
   pub found : (image : ℕ) (s : List ℕ) (pc : ℕ) (e : Entry) → a .find image s pc ≡ Record e → Greatest image s pc e
   pub nothing : (image : ℕ) (s : List ℕ) (pc : ℕ) → a .find image s pc ≡ Nothing → (i : ℕ) → i < length s / 8 → even pc < image + entryAt s i .start
-
--- a sham: a reader that looks at the table's first record only (proofs/Finding.antt)
-abbrev pub first-only : Reader
-first-only =
-    record { find = λ image s pc. ours .find image (take 8 s) pc; unwind = ours .unwind; walk = ours .walk; size = ours .size; word = ours .word; codes = ours .codes; list = ours .list; show = ours .show }

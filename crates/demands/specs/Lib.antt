@@ -2,7 +2,8 @@ pub mod Reader
 pub mod Contract
 pub mod Demand1
 pub mod FindLaws
-pub mod Demand2
 pub mod SizeLaws
+pub mod PackedLaws
 pub mod WalkLaws
+pub mod Demand2
 pub mod Shams

@@ -1,14 +1,19 @@
 -- Document 01's shams: readers that look like one, and that a demand must break (proofs/Refuted.antt).
 use Prim.Native.Nat.{ℕ, _-_, _<_}
 use mathlib.Core.Path.{_≡_}
-use mathlib.Core.List.{List}
-use lib.ListN.{length, getD}
-use lib.Dec.{leb}
+use mathlib.Core.List.{List, [], _∷_, _++_}
+use lib.Dec.{leb, eqb}
+use lib.ListN.{length, take, replicate, getD}
 use Rattle.words.specs.Bits.{bit}
 use Rattle.words.specs.Lent.{Lent, wordAt}
+use Rattle.words.specs.Units.{codeBytes}
 use Rattle.words.specs.declared.Refusal.{Refusal}
+use Rattle.words.specs.declared.Verdict.the-variants.{Given}
 use Rattle.unwinding.specs.Answer.{ok, refuse, if_then_else_}
 use Rattle.machine.specs.declared.Regs.{Regs}
+use Rattle.tables.specs.declared.Packed.{Packed}
+use Rattle.tables.specs.declared.WordOf.{WordOf}
+use Rattle.tables.specs.declared.CodesOf.{CodesOf}
 use Rattle.frame.specs.Frame.{Inputs, unwound, leafOf}
 use Rattle.frame.specs.declared.Unwound.{Unwound}
 use Rattle.walking.specs.declared.Frame.{Frame}
@@ -45,8 +50,13 @@ Copying a =
     (t : Inputs) (g : Regs) (l : List Frame) (none : Frame) (i : ℕ) → i < a .walk t g l .walked .frames
     → getD (a .walk t g l .list) i none ≡ getD (a .walk t g l .list) 0 none
 
--- More, that the laws of walks and of sizes break (proofs/OneWalk.antt, proofs/Sizing.antt). Ours, but for the walk: its sum of codes
--- invented; begun at the caller where there is room for one frame alone
+-- More, that demand 2's laws break (proofs/Finding.antt, OneWalk.antt, Sizing.antt, Packing.antt).
+-- ours, but that it looks at the table's first record only
+abbrev pub first-only : Reader
+first-only =
+    record { find = λ image s pc. ours .find image (take 8 s) pc; unwind = ours .unwind; walk = ours .walk; size = ours .size; word = ours .word; codes = ours .codes; list = ours .list; show = ours .show }
+
+-- ours, but for the walk: its sum of codes invented; begun at the caller where there is room for one frame alone
 abbrev pub with-walk : (Inputs → Regs → List Frame → WalkedAll) → Reader
 with-walk w =
     record { find = ours .find; unwind = ours .unwind; walk = w; size = ours .size; word = ours .word; codes = ours .codes; list = ours .list; show = ours .show }
@@ -64,3 +74,26 @@ resized n =
 
 abbrev pub handlerless : Lent → ℕ → ℕ
 handlerless x at = ours .size x at .bytes - (if bit 20 (wordAt x at) then 4 else 0)
+
+-- ours, but for packed words and their code bytes
+abbrev pub with-packed : (Packed → WordOf) → (ℕ → CodesOf) → Reader
+with-packed word codes =
+    record { find = ours .find; unwind = ours .unwind; walk = ours .walk; size = ours .size; word = word; codes = codes; list = ours .list; show = ours .show }
+
+-- words written without H
+abbrev pub forgetting : Reader
+forgetting =
+    with-packed (λ p. ours .word (record { flag = p .flag; length = p .length; ret = p .ret; h = 0; reg = p .reg; r = p .r; l = p .l; c = p .c; adjust = p .adjust })) (ours .codes)
+
+-- other lists for one word
+abbrev pub coding : ℕ → (first second : List ℕ) → Reader
+coding word k l =
+    with-packed (ours .word) (λ w. if eqb w word then record { verdict = Given; bytes = take 16 (k ++ l ++ replicate 16 0); first = codeBytes (length k); second = codeBytes (length l) } else ours .codes w)
+
+-- "Taking pop {r4,lr} for 16 bits because D4 says 16", in an epilogue that branches: Ret=1, L=1
+abbrev pub narrow-pop : Reader
+narrow-pop = coding 0x00102041 (0xD4 ∷ 0xFF ∷ []) (0xD4 ∷ 0xFD ∷ [])
+
+-- the prologue's codes not in reverse: push {r4,r5,lr}; sub sp,#512
+abbrev pub unreversed : Reader
+unreversed = coding 0x20110041 (0xD5 ∷ 0xE8 ∷ 0x80 ∷ 0xFF ∷ []) (0xE8 ∷ 0x80 ∷ 0xD5 ∷ 0xFF ∷ [])

@@ -31,6 +31,9 @@ use Rattle.tables.specs.Record.{lastScope, packedShape, shapeOf}
 use Rattle.tables.specs.Xdata.{fitXdata}
 use Rattle.tables.specs.declared.Entry.{Entry}
 use Rattle.tables.specs.declared.Packed.{Packed}
+use Rattle.packed.proofs.Words.{fields-fit}
+use Rattle.packed_codes.specs.Lists.{prologueCodes, epilogueCodes}
+use Rattle.packed_codes.proofs.Decoding.{holds}
 use Rattle.frame.specs.Frame.{Inputs, Caller, fitStack, within, byRecord, frameOf, frame, unwound}
 use Rattle.frame.specs.declared.Unwound.{Unwound}
 use Rattle.forward.specs.State.{State, Outside}
@@ -42,8 +45,6 @@ use Rattle.words.proofs.Laws.{both}
 use Rattle.forward.proofs.Viewed.{Viewed, viewed, read-of}
 use Rattle.forward.proofs.Ready.{Second, ready}
 use Rattle.forward.proofs.Within.{finds-in}
-use Rattle.forward.proofs.PackedLists.{ranged, first, second, first-codes, second-codes}
-use Rattle.forward.proofs.PackedRegisters.{small}
 use Rattle.forward.proofs.PackedSecond.{packed-second}
 
 -- ---- the second list of a full record is its first
@@ -107,12 +108,15 @@ packed-list :
 packed-list w s v sc ex h y m d =
     let p : Packed = fields w in
     let i = is-packed w s h in
-    let r = ranged w in
+    let hs = holds p (fields-fit w) in
     let o = only (p .ret) (written p .first) m (i .scopes) in
     let x = read-of s (y .exits) m in
-    let a : codesOf v ≡ first p = first-codes p r (small p r) (v .codes) (ap (λ l. codesAt l (codeBytes 0)) (sym (i .codes)) ∙ y .codes) in
-    let b : ex .codes .list ≡ second p = second-codes p r (small p r) (ex .codes) (o .0) (ap₂ codesAt (sym (i .codes)) (sym (o .1)) ∙ x .codes) in
-    rw (a, b) (packed-second p r (i .allowed) d)
+    let a : v .codes ≡ prologueCodes p = given (sym (y .codes) ∙ ap (λ l. codesAt l (codeBytes 0)) (i .codes) ∙ hs .first .read) in
+    let b : ex .codes ≡ epilogueCodes p = given (sym (x .codes) ∙ ap₂ codesAt (i .codes) (o .1) ∙ hs .second (o .0) .read) in
+    rw (a, b) (packed-second p (fields-fit w) (i .allowed) d)
+  where
+    given : {c d : Codes Code} → ok c ≡ ok d → c ≡ d
+    given h = cc
 
 -- ---- by the record's kind
 pub fit-second :

@@ -12,8 +12,6 @@ pub mod Viewed
 pub mod Placed
 pub mod Ready
 pub mod Within
-pub mod Reading
-pub mod PackedLists
 pub mod Fold
 pub mod PackedRegisters
 pub mod PackedSecond

@@ -4,15 +4,15 @@ use Prim.Native.Nat.{ℕ, zero, suc, _+_, _-_, _*_, _%_, _^_, _<_}
 use mathlib.Core.Path.{_≡_, refl, sym, ap₂, subst}
 use mathlib.Core.List.{List, [], _∷_, _++_}
 use mathlib.Core.Bool.{Bool, true, false, _&&_, _||_}
-use lib.Dec.{T, ltb, eqb, eqb→eq, ltb→lt}
+use lib.Dec.{T, eqb, eqb→eq}
 use native.Mathlib.Omega.{arith}
 use borrow.Author.Tests.{eqb-true, eqb-false}
 use Rattle.unwinding.specs.Answer.{if_then_else_}
 use Rattle.codes.specs.Table.{range, lrIf}
+use Rattle.tables.specs.Packed.{Fit}
 use Rattle.tables.specs.PackedCodes.{integers}
 use Rattle.tables.specs.declared.Packed.{Packed}
 use Rattle.forward.specs.Saving.{listed, upward}
-use Rattle.forward.proofs.PackedLists.{Ranged}
 
 -- ---- a test of every number below another
 abbrev all : ℕ → (ℕ → Bool) → Bool
@@ -65,7 +65,7 @@ abbrev pub clash : (r reg c : ℕ) → Bool
 clash r reg c = eqb c 1 && eqb r 0 && eqb reg 7
 
 abbrev right : (r reg c a b : ℕ) → Bool → Bool
-right r reg c a b f = ltb (listOf r reg c a f) (2 ^ 13) && (clash r reg c || same (listed (listOf r reg c a f + lrIf b) 15) (folds f a ++ (names r reg c ++ lrs b)))
+right r reg c a b f = clash r reg c || same (listed (listOf r reg c a f + lrIf b) 15) (folds f a ++ (names r reg c ++ lrs b))
 
 abbrev by-b : (r reg c a b : ℕ) → Bool
 by-b r reg c a b = right r reg c a b true && right r reg c a b false
@@ -95,19 +95,10 @@ right-at r reg c a b f hr hg hc ha hb =
     go true u = u .0
     go false u = u .1
 
-module _ (p : Packed) (w : Ranged p) where
-  rights : (f : Bool) (b : ℕ) → b < 2 → T (right (p .r) (p .reg) (p .c) (p .adjust % 4) b f)
-  rights f b h = right-at (p .r) (p .reg) (p .c) (p .adjust % 4) b f (w .r) (w .reg) (w .c) (omega arith) h
-
-  pub small : (f : Bool) → integers p f < 2 ^ 13
-  small f =
-      ltb→lt (integers p f) (2 ^ 13)
-      (split (ltb (integers p f) (2 ^ 13)) (clash (p .r) (p .reg) (p .c) || same (listed (integers p f + lrIf 0) 15) (folds f (p .adjust % 4) ++ (names (p .r) (p .reg) (p .c) ++ lrs 0))) (rights f 0 (omega arith)) .0)
-
-  pub registers :
-      (f : Bool) (b : ℕ) → b < 2 → clash (p .r) (p .reg) (p .c) ≡ false
-      → listed (integers p f + lrIf b) 15 ≡ folds f (p .adjust % 4) ++ (names (p .r) (p .reg) (p .c) ++ lrs b)
-  registers f b h n =
-      let rest : Bool = same (listed (integers p f + lrIf b) 15) (folds f (p .adjust % 4) ++ (names (p .r) (p .reg) (p .c) ++ lrs b)) in
-      let t : T (clash (p .r) (p .reg) (p .c) || rest) = split (ltb (integers p f) (2 ^ 13)) (clash (p .r) (p .reg) (p .c) || rest) (rights f b h) .1 in
-      same-eq _ _ (subst (λ x. T (x || rest)) n t)
+pub registers :
+    (p : Packed) → Fit p → (f : Bool) (b : ℕ) → b < 2 → clash (p .r) (p .reg) (p .c) ≡ false
+    → listed (integers p f + lrIf b) 15 ≡ folds f (p .adjust % 4) ++ (names (p .r) (p .reg) (p .c) ++ lrs b)
+registers p w f b h n =
+    let rest : Bool = same (listed (integers p f + lrIf b) 15) (folds f (p .adjust % 4) ++ (names (p .r) (p .reg) (p .c) ++ lrs b)) in
+    let t : T (clash (p .r) (p .reg) (p .c) || rest) = right-at (p .r) (p .reg) (p .c) (p .adjust % 4) b f (w .r) (w .reg) (w .c) (omega arith) h in
+    same-eq _ _ (subst (λ x. T (x || rest)) n t)

@@ -11,13 +11,17 @@ use native.Mathlib.Omega.{arith}
 use borrow.Author.Tests.{not-true, eqb-true, eqb-false, eq-eqb, ne-eqb}
 use Rattle.words.specs.Bits.{bit}
 use Rattle.words.specs.Units.{stackWords}
+use Rattle.words.specs.declared.Halfwords.{Halfwords}
 use Rattle.unwinding.specs.Answer.{if_then_else_}
 use Rattle.codes.specs.Table.{lrIf, bits16, bits32}
 use Rattle.codes.specs.declared.Code.{Code}
+use Rattle.codes.specs.declared.Undo.{Undo}
 use Rattle.codes.specs.declared.Undo.the-variants.{Up, Pop, Vpop, LoadLr, Nothing}
-use Rattle.tables.specs.Packed.{allowed, folded, amount, PF, EF}
+use Rattle.tables.specs.Packed.{Fit, allowed, folded, amount, PF, EF}
 use Rattle.tables.specs.PackedCodes.{integers, low}
 use Rattle.tables.specs.declared.Packed.{Packed}
+use Rattle.packed_codes.specs.Lists.{only, sizeIf, ups, vpops, pops, nops, homes, prologueCodes, leaving, leaves, epilogueCodes}
+use Rattle.packed_codes.proofs.Decoding.{prologue-is}
 use Rattle.forward.specs.Registers.{Lasting}
 use Rattle.forward.specs.Saving.{listed, upward, IsRX, RX}
 use Rattle.forward.specs.Exits.{SavesD}
@@ -28,15 +32,13 @@ use Rattle.forward.proofs.Fold as Fold
 use Rattle.words.proofs.Laws.{both}
 use Rattle.forward.proofs.Scanned.{fourth}
 use Rattle.forward.proofs.Ready.{Second}
-use Rattle.forward.proofs.Reading.{upOf, popOf}
-use Rattle.forward.proofs.PackedLists.{Ranged, ups, vpops, nops, homes, returns, first, leavesBy, leaves, second}
 use Rattle.forward.proofs.PackedRegisters.{folds, names, lrs, clash, registers}
 
 -- ---- the steps of each piece
-flat-pop : (w : Bool) (l b : ℕ) → flat (popOf w l b) ≡ loads (listed (l + lrIf b) 15)
+flat-pop : (w : Bool) (l b : ℕ) → flat (pops w l b) ≡ loads (listed (l + lrIf b) 15)
 flat-pop w l b = go (eqb (l + b) 0) refl
   where
-    go : (t : Bool) → eqb (l + b) 0 ≡ t → flat (if not t then record { undo = Pop (l + lrIf b); size = (if w then bits16 else bits32) } ∷ [] else []) ≡ loads (listed (l + lrIf b) 15)
+    go : (t : Bool) → eqb (l + b) 0 ≡ t → flat (only (not t) (Pop (l + lrIf b)) (sizeIf w)) ≡ loads (listed (l + lrIf b) 15)
     go true e =
         let p : l ≡ 0 = omega (arith, eqb-true (l + b) 0 e) in
         let q : b ≡ 0 = omega (arith, eqb-true (l + b) 0 e) in
@@ -49,14 +51,14 @@ homeOps p = if eqb (p .h) 1 then skip 4 ∷ [] else []
 flat-homes : (p : Packed) → flat (homes p) ≡ homeOps p
 flat-homes p = go (eqb (p .h) 1)
   where
-    go : (t : Bool) → flat (if t then record { undo = Up (stackWords 4); size = bits16 } ∷ [] else []) ≡ (if t then skip 4 ∷ [] else [])
+    go : (t : Bool) → flat (only t (Up (stackWords 4)) bits16) ≡ (if t then skip 4 ∷ [] else [])
     go true = refl
     go false = refl
 
 flat-nops : (p : Packed) → flat (nops p) ≡ []
 flat-nops p = go (eqb (p .c) 1)
   where
-    go : (t : Bool) → flat (if t then record { undo = Nothing; size = bits32 } ∷ [] else []) ≡ []
+    go : (t : Bool) → flat (only t Nothing bits32) ≡ []
     go true = refl
     go false = refl
 
@@ -70,32 +72,33 @@ body p f = loads (folds f (p .adjust % 4)) ++ tail p
 abbrev shape : Packed → Bool → List Op
 shape p f = flat (ups p f) ++ (flat (vpops p) ++ body p f)
 
-module _ (p : Packed) (w : Ranged p) (ok : clash (p .r) (p .reg) (p .c) ≡ false) where
+module _ (p : Packed) (w : Fit p) (ok : clash (p .r) (p .reg) (p .c) ≡ false) where
   -- a pop of the whole list, and then the home words
-  plain : (t f : Bool) (h : List Op) → flat (popOf t (integers p f) (p .l)) ++ h ≡ loads (folds f (p .adjust % 4)) ++ (loads (names (p .r) (p .reg) (p .c) ++ lrs (p .l)) ++ h)
+  plain : (t f : Bool) (h : List Op) → flat (pops t (integers p f) (p .l)) ++ h ≡ loads (folds f (p .adjust % 4)) ++ (loads (names (p .r) (p .reg) (p .c) ++ lrs (p .l)) ++ h)
   plain t f h =
       ap (λ x. x ++ h) (flat-pop t (integers p f) (p .l) ∙ ap loads (registers p w f (p .l) (w .l) ok) ∙ loads-append (folds f (p .adjust % 4)) (names (p .r) (p .reg) (p .c) ++ lrs (p .l)))
       ∙ append-assoc (loads (folds f (p .adjust % 4))) (loads (names (p .r) (p .reg) (p .c) ++ lrs (p .l))) h
 
-  pub flat-first : flat (first p) ≡ shape p (PF p)
+  pub flat-first : flat (prologueCodes p .list) ≡ shape p (PF p)
   flat-first =
       let l : ℕ = integers p (PF p) in
-      flat-append (ups p (PF p) ++ vpops p ++ nops p ++ popOf (low l) l (p .l)) (homes p)
+      ap flat (prologue-is p)
+      ∙ flat-append (ups p (PF p) ++ vpops p ++ nops p ++ pops (low l) l (p .l)) (homes p)
       ∙ ap₂ _++_
-      (flat-append (ups p (PF p) ++ vpops p ++ nops p) (popOf (low l) l (p .l))
-      ∙ ap (λ x. x ++ flat (popOf (low l) l (p .l)))
+      (flat-append (ups p (PF p) ++ vpops p ++ nops p) (pops (low l) l (p .l))
+      ∙ ap (λ x. x ++ flat (pops (low l) l (p .l)))
       (flat-append (ups p (PF p) ++ vpops p) (nops p) ∙ ap₂ _++_ (flat-append (ups p (PF p)) (vpops p)) (flat-nops p) ∙ append-nil (flat (ups p (PF p)) ++ flat (vpops p))))
       (flat-homes p)
-      ∙ append-assoc (flat (ups p (PF p)) ++ flat (vpops p)) (flat (popOf (low l) l (p .l))) (homeOps p)
+      ∙ append-assoc (flat (ups p (PF p)) ++ flat (vpops p)) (flat (pops (low l) l (p .l))) (homeOps p)
       ∙ ap (λ x. flat (ups p (PF p)) ++ flat (vpops p) ++ x) (plain (low l) (PF p) (homeOps p))
       ∙ append-assoc (flat (ups p (PF p))) (flat (vpops p)) (body p (PF p))
 
   -- LR by itself, with the home words, is LR last in the list and then the home words
-  alone : (f : Bool) → p .h ≡ 1 → p .l ≡ 1 → flat (popOf (low (integers p f)) (integers p f) 0 ++ returns) ≡ body p f
+  alone : (f : Bool) → p .h ≡ 1 → p .l ≡ 1 → flat (leaving true true p (integers p f) .list) ≡ body p f
   alone f h l =
       let F : List ℕ = folds f (p .adjust % 4) in
       let N : List ℕ = names (p .r) (p .reg) (p .c) in
-      flat-append (popOf (low (integers p f)) (integers p f) 0) returns
+      flat-append (pops (low (integers p f)) (integers p f) 0) (only true (LoadLr (stackWords 5)) bits32)
       ∙ ap (λ x. x ++ (load 14 ∷ skip 4 ∷ []))
       (flat-pop (low (integers p f)) (integers p f) 0
       ∙ ap loads (registers p w f 0 (omega arith) ok ∙ ap (λ x. F ++ x) (append-nil N))
@@ -104,17 +107,17 @@ module _ (p : Packed) (w : Ranged p) (ok : clash (p .r) (p .reg) (p .c) ≡ fals
       ∙ ap (λ x. loads F ++ x) (sym (append-assoc (loads N) (load 14 ∷ []) (skip 4 ∷ [])) ∙ ap (λ x. x ++ (skip 4 ∷ [])) (sym (loads-append N (14 ∷ []))))
       ∙ ap₂ (λ i j. loads F ++ (loads (N ++ (if i then 14 ∷ [] else [])) ++ (if j then skip 4 ∷ [] else []))) (sym (eq-eqb (p .l) 1 l)) (sym (eq-eqb (p .h) 1 h))
 
-  flat-leaves : (f : Bool) → (p .ret ≡ 0 → p .l ≢ 0) → flat (leaves p (integers p f)) ≡ body p f
+  flat-leaves : (f : Bool) → (p .ret ≡ 0 → p .l ≢ 0) → flat (leaving (eqb (p .h) 1 && eqb (p .l) 1) (eqb (p .ret) 0) p (integers p f) .list) ≡ body p f
   flat-leaves f n = go (eqb (p .h) 1 && eqb (p .l) 1) (eqb (p .ret) 0) refl refl
     where
-      go : (s t : Bool) → (eqb (p .h) 1 && eqb (p .l) 1) ≡ s → eqb (p .ret) 0 ≡ t → flat (leavesBy s t p (integers p f)) ≡ body p f
+      go : (s t : Bool) → (eqb (p .h) 1 && eqb (p .l) 1) ≡ s → eqb (p .ret) 0 ≡ t → flat (leaving s t p (integers p f) .list) ≡ body p f
       go true t e q =
           let u = both (eqb (p .h) 1) (eqb (p .l) 1) e in
           alone f (eqb-true (p .h) 1 (u .0)) (eqb-true (p .l) 1 (u .1))
       go false true e q =
           let l : p .l ≡ 1 = omega (arith, w .l, n (eqb-true (p .ret) 0 q)) in
           let h : eqb (p .h) 1 ≡ false = other (eqb (p .h) 1) (eqb (p .l) 1) e (eq-eqb (p .l) 1 l) in
-          sym (append-nil (flat (popOf (low (integers p f)) (integers p f) (p .l))))
+          sym (append-nil (flat (pops (low (integers p f)) (integers p f) (p .l))))
           ∙ plain (low (integers p f)) f []
           ∙ ap (λ x. loads (folds f (p .adjust % 4)) ++ (loads (names (p .r) (p .reg) (p .c) ++ lrs (p .l)) ++ (if x then skip 4 ∷ [] else []))) (sym h)
         where
@@ -122,13 +125,13 @@ module _ (p : Packed) (w : Ranged p) (ok : clash (p .r) (p .reg) (p .c) ≡ fals
           other true b e q = absurd (let z : _≡_ {A = ℕ} 0 1 = cc in omega arith)
           other false b e q = refl
       go false false e q =
-          flat-append (popOf (low (integers p f) && eqb (p .l) 0) (integers p f) (p .l)) (homes p)
-          ∙ ap (λ x. flat (popOf (low (integers p f) && eqb (p .l) 0) (integers p f) (p .l)) ++ x) (flat-homes p)
+          flat-append (pops (low (integers p f) && eqb (p .l) 0) (integers p f) (p .l)) (homes p)
+          ∙ ap (λ x. flat (pops (low (integers p f) && eqb (p .l) 0) (integers p f) (p .l)) ++ x) (flat-homes p)
           ∙ plain (low (integers p f) && eqb (p .l) 0) f (homeOps p)
 
-  pub flat-second : (p .ret ≡ 0 → p .l ≢ 0) → flat (second p) ≡ shape p (EF p)
+  pub flat-second : (p .ret ≡ 0 → p .l ≢ 0) → flat (epilogueCodes p .list) ≡ shape p (EF p)
   flat-second n =
-      flat-append (ups p (EF p) ++ vpops p) (leaves p (integers p (EF p)))
+      flat-append (ups p (EF p) ++ vpops p) (leaves p .list)
       ∙ ap₂ _++_ (flat-append (ups p (EF p)) (vpops p)) (flat-leaves (EF p) n)
       ∙ append-assoc (flat (ups p (EF p))) (flat (vpops p)) (body p (EF p))
 
@@ -183,10 +186,9 @@ module _ (p : Packed) (base : ℕ) (e : St) (b : Seen) (m : ℕ → ℕ) where
   shape-false : vpops p ≡ [] → folded p ≡ true → shape p false ≡ skip (p .adjust % 4 + 1) ∷ tail p
   shape-false d f =
       let n : ℕ = p .adjust % 4 + 1 in
-      let c : Code = record { undo = Up (stackWords n); size = (if leb n 127 then bits16 else bits32) } in
-      ap (λ v. flat (upOf (amount p .0)) ++ (flat v ++ body p false)) d
-      ∙ ap (λ t. flat (upOf (if t then n else p .adjust)) ++ tail p) f
-      ∙ ap (λ t. flat (if not t then c ∷ [] else []) ++ tail p) (ne-eqb n 0 (λ q. omega arith))
+      ap (λ v. flat (ups p false) ++ (flat v ++ body p false)) d
+      ∙ ap (λ t. let m : ℕ = if t then n else p .adjust in flat (only (not (eqb m 0)) (Up (stackWords m)) (sizeIf (leb m 127))) ++ tail p) f
+      ∙ ap (λ t. flat (only (not t) (Up (stackWords n)) (sizeIf (leb n 127))) ++ tail p) (ne-eqb n 0 (λ q. omega arith))
 
   shapes :
       (f g : Bool) → (f ≡ true → folded p ≡ true) → (g ≡ true → folded p ≡ true) → vpops p ≡ [] → Inv base e (shape p f) b m → Inv base e (shape p g) b m
@@ -209,49 +211,27 @@ no-append [] b h k x q = k x q
 no-append (c ∷ a) b h k x (inl q) = h x (inl q)
 no-append (c ∷ a) b h k x (inr q) = no-append a b (λ y z. h y (inr z)) k x q
 
-no-one : (c : Code) → ((x : ℕ) → IsRX (c .undo) x → ⊥) → NoRX (c ∷ [])
+no-only : (t : Bool) (u : Undo) (n : Halfwords) → ((x : ℕ) → IsRX u x → ⊥) → NoRX (only t u n)
 unfolding NoRX
-no-one c h x (inl q) = h x q
-no-one c h x (inr q) = q
+no-only true u n h x (inl q) = h x q
+no-only true u n h x (inr q) = q
+no-only false u n h x q = q
 
-no-if : (t : Bool) (cs : List Code) → NoRX cs → NoRX (if t then cs else [])
-unfolding NoRX
-no-if true cs h = h
-no-if false cs h = λ x q. q
+no-pop : (t : Bool) (l b : ℕ) → NoRX (pops t l b)
+no-pop t l b = no-only (not (eqb (l + b) 0)) (Pop (l + lrIf b)) (sizeIf t) (λ x q. q)
 
-no-pop : (t : Bool) (l b : ℕ) → NoRX (popOf t l b)
-no-pop t l b =
-    let c : Code = record { undo = Pop (l + lrIf b); size = (if t then bits16 else bits32) } in
-    no-if (not (eqb (l + b) 0)) (c ∷ []) (no-one c (λ x q. q))
+no-leaves : (p : Packed) (l : ℕ) (s t : Bool) → NoRX (leaving s t p l .list)
+no-leaves p l true t = no-append (pops (low l) l 0) (only true (LoadLr (stackWords 5)) bits32) (no-pop (low l) l 0) (no-only true (LoadLr (stackWords 5)) bits32 (λ x q. q))
+no-leaves p l false true = no-pop (low l) l (p .l)
+no-leaves p l false false =
+    no-append (pops (low l && eqb (p .l) 0) l (p .l)) (homes p) (no-pop (low l && eqb (p .l) 0) l (p .l)) (no-only (eqb (p .h) 1) (Up (stackWords 4)) bits16 (λ x q. q))
 
-no-ups : (p : Packed) (f : Bool) → NoRX (ups p f)
-no-ups p f =
-    let n : ℕ = amount p .0 in
-    let c : Code = record { undo = Up (stackWords n); size = (if leb n 127 then bits16 else bits32) } in
-    no-if (not f) (upOf n) (no-if (not (eqb n 0)) (c ∷ []) (no-one c (λ x q. q)))
-
-no-vpops : (p : Packed) → NoRX (vpops p)
-no-vpops p =
-    let c : Code = record { undo = Vpop 8 (8 + p .reg); size = bits32 } in
-    no-if (eqb (p .r) 1 && not (eqb (p .reg) 7)) (c ∷ []) (no-one c (λ x q. q))
-
-no-homes : (p : Packed) → NoRX (homes p)
-no-homes p =
-    let c : Code = record { undo = Up (stackWords 4); size = bits16 } in
-    no-if (eqb (p .h) 1) (c ∷ []) (no-one c (λ x q. q))
-
-no-leaves : (p : Packed) (l : ℕ) → NoRX (leaves p l)
-no-leaves p l = go (eqb (p .h) 1 && eqb (p .l) 1) (eqb (p .ret) 0)
-  where
-    go : (s t : Bool) → NoRX (leavesBy s t p l)
-    go true t = no-append (popOf (low l) l 0) returns (no-pop (low l) l 0) (no-one (record { undo = LoadLr (stackWords 5); size = bits32 }) (λ x q. q))
-    go false true = no-pop (low l) l (p .l)
-    go false false = no-append (popOf (low l && eqb (p .l) 0) l (p .l)) (homes p) (no-pop (low l && eqb (p .l) 0) l (p .l)) (no-homes p)
-
-no-second : (p : Packed) → NoRX (second p)
+no-second : (p : Packed) → NoRX (epilogueCodes p .list)
 no-second p =
-    no-append (ups p (EF p) ++ vpops p) (leaves p (integers p (EF p))) (no-append (ups p (EF p)) (vpops p) (no-ups p (EF p)) (no-vpops p))
-    (no-leaves p (integers p (EF p)))
+    no-append (ups p (EF p) ++ vpops p) (leaves p .list)
+    (no-append (ups p (EF p)) (vpops p) (no-only (not (EF p) && not (eqb (amount p .0) 0)) (Up (amount p)) (sizeIf (leb (amount p .0) 127)) (λ x q. q))
+    (no-only (eqb (p .r) 1 && not (eqb (p .reg) 7)) (Vpop 8 (8 + p .reg)) bits32 (λ x q. q)))
+    (no-leaves p (integers p (EF p)) (eqb (p .h) 1 && eqb (p .l) 1) (eqb (p .ret) 0))
 
 -- ---- the second list
 -- "packed with Ret=0 and L=0, or C=1 and L=0, or C=1, R=0 and Reg=7" are refused
@@ -275,12 +255,12 @@ is-allowed p h =
 same-or-none : (p : Packed) → (SavesD p → PF p ≡ EF p) → (PF p ≡ EF p) ⊎ (vpops p ≡ [])
 same-or-none p h = go (eqb (p .r) 1) (eqb (p .reg) 7) refl refl
   where
-    go : (s t : Bool) → eqb (p .r) 1 ≡ s → eqb (p .reg) 7 ≡ t → (PF p ≡ EF p) ⊎ (if_then_else_ {A = List Code} (s && not t) (record { undo = Vpop 8 (8 + p .reg); size = bits32 } ∷ []) [] ≡ [])
+    go : (s t : Bool) → eqb (p .r) 1 ≡ s → eqb (p .reg) 7 ≡ t → (PF p ≡ EF p) ⊎ (only (s && not t) (Vpop 8 (8 + p .reg)) bits32 ≡ [])
     go true true e f = inr refl
     go true false e f = inl (h (eqb-true (p .r) 1 e, eqb-false (p .reg) 7 f))
     go false t e f = inr refl
 
-pub packed-second : (p : Packed) → Ranged p → allowed p ≡ true → (SavesD p → PF p ≡ EF p) → Second (first p) (second p)
+pub packed-second : (p : Packed) → Fit p → allowed p ≡ true → (SavesD p → PF p ≡ EF p) → Second (prologueCodes p .list) (epilogueCodes p .list)
 unfolding NoRX
 packed-second p w a h = record {
   inv = λ base e b m v.

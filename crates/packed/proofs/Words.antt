@@ -113,14 +113,18 @@ word-of-fields w h =
     (sym (mod-eq-of-lt (omega arith)))
     ∙ div-one w
 
+-- the word has 32 bits
+word-small : (p : Packed) → Fit p → wordOf p < 2 ^ 32
+word-small p f = omega (arith, f .flag, f .length, f .ret, f .h, f .reg, f .r, f .l, f .c, f .adjust)
+
 -- the writer and the reader are inverse on what they accept
-pub write-then-read : (p : Packed) (w : ℕ) → writeWord p ≡ ok w → fields w ≡ p
+pub write-then-read : (p : Packed) (w : ℕ) → writeWord p ≡ ok w → (fields w ≡ p) × (w < 2 ^ 32)
 write-then-read p w h = go (fieldsFit p && allowed p) refl
   where
-    go : (t : Bool) → (fieldsFit p && allowed p) ≡ t → fields w ≡ p
+    go : (t : Bool) → (fieldsFit p && allowed p) ≡ t → (fields w ≡ p) × (w < 2 ^ 32)
     go true e =
         let word : wordOf p ≡ w = cc (write-given p e) in
-        rw word at (fields-of-word p (writable-fit p e))
+        let f = writable-fit p e in (rw word at (fields-of-word p f), rw word at (word-small p f))
     go false e = absurd (let z : _≡_ {A = ℕ} 0 1 = cc (write-refused p e) in omega arith)
 
 pub read-then-write : (w : ℕ) → w < 2 ^ 32 → allowed (fields w) ≡ true → writeWord (fields w) ≡ ok w

@@ -2,4 +2,5 @@ pub mod Buffer
 pub mod Pieces
 pub mod Lengths
 pub mod Written
+pub mod Reading
 pub mod Decoding

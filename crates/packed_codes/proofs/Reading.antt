@@ -1,4 +1,4 @@
--- Code bytes that hold whole codes: what they are read as, whatever follows them.
+-- Code bytes that hold whole codes: what they are read as, whatever follows them; and those of a list up to its end code.
 -- Assumes nothing.
 use Prim.Native.Nat.{ℕ, zero, suc, _+_, _*_, _/_, _%_, _^_, _≤_, _<_}
 use mathlib.Core.Path.{_≡_, refl, sym, ap, ap₂, _∙_}
@@ -20,6 +20,7 @@ use Rattle.codes.specs.declared.Meaning.the-variants.{Does, End}
 use Rattle.codes.specs.declared.Undo.{Undo}
 use Rattle.codes.specs.declared.Undo.the-variants.{Up, Pop, Vpop, LoadLr, Nothing}
 use Rattle.tables.specs.PackedCodes.{when, upCode, upTo, dForm, popCode}
+use Rattle.packed_codes.specs.Lists.{only, sizeIf, pops}
 
 -- codes before what a scan found
 abbrev ahead : List Code → Scan → Scan
@@ -115,34 +116,31 @@ unfolding rows rowIn
 long-d-row b l h = rw (lt-leb b 0x7F (omega arith), lt-leb b 0xBF (omega arith), lt-leb b 0xCF (omega arith), lt-leb b 0xD7 l, le-leb b 0xDF h) refl
 
 -- ---- the pieces of packed lists
-abbrev pub upOf : ℕ → List Code
-upOf n = if not (eqb n 0) then record { undo = Up (stackWords n); size = (if leb n 127 then bits16 else bits32) } ∷ [] else []
-
-pub reads-up : (n : ℕ) → n < 1024 → Reads (upCode (stackWords n)) (upOf n)
+pub reads-up : (n : ℕ) → n < 1024 → Reads (upCode (stackWords n)) (only (not (eqb n 0)) (Up (stackWords n)) (sizeIf (leb n 127)))
 reads-up n h = reads-when (not (eqb n 0)) (go (leb n 127) refl)
   where
     go :
         (t : Bool) → leb n 127 ≡ t
-        → Reads (if t then n ∷ [] else (0xE8 + n / 256) ∷ (n % 256) ∷ []) (record { undo = Up (stackWords n); size = (if t then bits16 else bits32) } ∷ [])
+        → Reads (if t then n ∷ [] else (0xE8 + n / 256) ∷ (n % 256) ∷ []) (only true (Up (stackWords n)) (sizeIf t))
     go true e = one n _ (Up (stackWords n)) (up-row n (leb-true n 127 e)) refl (ap (λ i. Does (Up (stackWords i))) (let z : bits 0 7 (256 * 0 + n) ≡ n = omega (arith, leb-true n 127 e) in z))
     go false e =
         two (0xE8 + n / 256) (n % 256) _ (Up (stackWords n)) (long-up-row (0xE8 + n / 256) (omega arith) (omega arith)) refl
         (ap (λ i. Does (Up (stackWords i))) (let z : bits 0 10 (256 * (256 * 0 + (0xE8 + n / 256)) + n % 256) ≡ n = omega arith in z))
 
-pub reads-vpop : (x : ℕ) → x < 8 → Reads ((0xE0 + x) ∷ []) (record { undo = Vpop 8 (8 + x); size = bits32 } ∷ [])
+pub reads-vpop : (x : ℕ) → x < 8 → Reads ((0xE0 + x) ∷ []) (only true (Vpop 8 (8 + x)) bits32)
 reads-vpop x h =
     one (0xE0 + x) _ (Vpop 8 (8 + x)) (vpop-row (0xE0 + x) (omega arith) (omega arith)) refl
     (ap (λ i. Does (Vpop 8 (8 + i))) (let z : bits 0 3 (256 * 0 + (0xE0 + x)) ≡ x = omega arith in z))
 
-pub reads-nop : Reads (0xFC ∷ []) (record { undo = Nothing; size = bits32 } ∷ [])
+pub reads-nop : Reads (0xFC ∷ []) (only true Nothing bits32)
 unfolding rows rowIn
 reads-nop = one 0xFC (rowOf 0xFC) Nothing refl refl refl
 
-pub reads-home : Reads (0x04 ∷ []) (record { undo = Up (stackWords 4); size = bits16 } ∷ [])
+pub reads-home : Reads (0x04 ∷ []) (only true (Up (stackWords 4)) bits16)
 unfolding rows rowIn
 reads-home = one 0x04 (rowOf 0x04) (Up (stackWords 4)) refl refl refl
 
-pub reads-return : Reads (0xEF ∷ 0x05 ∷ []) (record { undo = LoadLr (stackWords 5); size = bits32 } ∷ [])
+pub reads-return : Reads (0xEF ∷ 0x05 ∷ []) (only true (LoadLr (stackWords 5)) bits32)
 unfolding rows rowIn
 reads-return = two 0xEF 0x05 (rowOf 0xEF) (LoadLr (stackWords 5)) refl refl refl
 
@@ -163,12 +161,9 @@ up-to (suc n) x l y h = go (eqb l (range 4 x)) refl h (λ q. up-to n (x + 1) l y
     go true e q ih = let z : x ≡ y = cc in record { low = omega arith; high = omega arith; same = eqb-true l (range 4 x) e ∙ ap (range 4) z }
     go false e q ih = let w = ih q in record { low = omega (arith, w .low); high = omega (arith, w .high); same = w .same }
 
-abbrev pub sizeOf : Bool → Halfwords
-sizeOf narrow = if narrow then bits16 else bits32
-
 -- what a pop's code is read as
 abbrev poppedAs : Bool → ℕ → ℕ → List Code
-poppedAs w l b = record { undo = Pop (l + lrIf b); size = sizeOf w } ∷ []
+poppedAs w l b = only true (Pop (l + lrIf b)) (sizeIf w)
 
 pop-16 : (l b : ℕ) (x : Option ℕ) → upTo 4 4 l ≡ x → l < 256 → b < 2 → Reads (dForm x 0xD0 b ((0xEC + b) ∷ l ∷ [])) (poppedAs true l b)
 pop-16 l b none e h k =
@@ -193,9 +188,6 @@ pop-32 l b (some y) e h k =
     (let z : bits 2 1 (256 * 0 + (0xD8 + y % 4 + 4 * b)) ≡ b = omega arith in z)
     ∙ ap (λ i. Does (Pop (i + lrIf b))) (sym (u .same)))
 
-abbrev pub popOf : Bool → ℕ → ℕ → List Code
-popOf w l b = if not (eqb (l + b) 0) then poppedAs w l b else []
-
-pub reads-pop : (w : Bool) (l b : ℕ) → (w ≡ true → l < 256) → l < 2 ^ 13 → b < 2 → Reads (popCode w l b) (popOf w l b)
+pub reads-pop : (w : Bool) (l b : ℕ) → (w ≡ true → l < 256) → l < 2 ^ 13 → b < 2 → Reads (popCode w l b) (pops w l b)
 reads-pop true l b f h k = reads-when (not (eqb (l + b) 0)) (pop-16 l b (upTo 4 4 l) refl (f refl) k)
 reads-pop false l b f h k = reads-when (not (eqb (l + b) 0)) (pop-32 l b (upTo 4 8 l) refl h k)

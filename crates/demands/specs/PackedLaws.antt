@@ -1,0 +1,22 @@
+-- Demand 2 of packed records, as laws of any reader: what is refused, that the word's writer and its fields are inverse, and that the
+-- code bytes stand for the instructions of document 01's prologue and epilogue.
+use Prim.Native.Nat.{ℕ, _^_, _<_}
+use mathlib.Core.Path.{_≡_}
+use mathlib.Core.Bool.{_&&_}
+use Rattle.words.specs.declared.Refusal.the-variants.{Reserved}
+use Rattle.words.specs.declared.Verdict.the-variants.{Given, Refused}
+use Rattle.unwinding.specs.Answer.{if_then_else_}
+use Rattle.tables.specs.Packed.{fields, fieldsFit, allowed}
+use Rattle.tables.specs.declared.Packed.{Packed}
+use Rattle.packed_codes.specs.Lists.{Holds}
+use Rattle.demands.specs.Reader.{Reader}
+
+pub record PackedLaws (a : Reader) : Type 0 where
+  -- "refusing with 4 what a reader does, Flag 0 and a field too large for its bits"; the code writer "refuses as the word's writer does"
+  pub accepted : (p : Packed) → a .word p .verdict ≡ (if fieldsFit p && allowed p then Given else Refused Reserved)
+  pub alike : (w : ℕ) → a .codes w .verdict ≡ a .word (fields w) .verdict
+  -- "The writer takes fields and gives the word": of 32 bits, whose fields they are; and there is no other
+  pub written-read : (p : Packed) → a .word p .verdict ≡ Given → (fields (a .word p .word) ≡ p) × (a .word p .word < 2 ^ 32)
+  pub read-written : (w : ℕ) → w < 2 ^ 32 → a .codes w .verdict ≡ Given → a .word (fields w) ≡ record { verdict = Given; word = w }
+  -- the code bytes are the prologue's codes in reverse and then the epilogue's, and the rest 0
+  pub lists : (w : ℕ) → a .codes w .verdict ≡ Given → Holds (fields w) (a .codes w)
