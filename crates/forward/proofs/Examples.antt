@@ -2,11 +2,11 @@
 -- in its prologue, its body and its epilogue.
 -- Assumes nothing.
 use Prim.Native.Nat.{ℕ, _+_, _-_, _*_, _^_, _≤_, _<_}
-use mathlib.Core.Path.{_≡_, refl, sym, ap, _∙_}
-use mathlib.Core.List.{List, [], _∷_, _++_}
+use mathlib.Core.Path.{_≡_, refl, sym, ap, subst}
+use mathlib.Core.List.{List, [], _∷_, _++_, append-nil}
 use mathlib.Core.Bool.{Bool, true, false}
 use mathlib.Core.Option.{Option, some}
-use mathlib.Core.Logic.{_≢_, inl, inr}
+use mathlib.Core.Logic.{inl, inr}
 use lib.ListN.{replicate}
 use native.Mathlib.Omega.{arith}
 use Rattle.words.specs.Bits.{bits, even}
@@ -30,21 +30,17 @@ use Rattle.tables.specs.Record.{shapeOf}
 use Rattle.tables.specs.declared.Entry.{Entry}
 use Rattle.frame.specs.Frame.{Inputs}
 use Rattle.frame.proofs.Opened.{opened}
-use Rattle.machine.specs.Registers.{setReg, setPc}
 use Rattle.machine.specs.declared.Regs.{Regs}
-use Rattle.forward.specs.State.{Whole, State}
-use Rattle.forward.specs.Exits.{Of, here, InNone, Fit, full, packed}
-use Rattle.forward.specs.Prologue.{Rests, next}
-use Rattle.forward.specs.Registers.{value}
-use Rattle.forward.specs.Stop.{codesOf, prologue}
 use Rattle.forward.specs.Saving.{RX}
-use Rattle.forward.specs.Body.{Wanted}
-use Rattle.forward.specs.Met.{FineRX, Fine, room, Reaches}
-use Rattle.forward.proofs.Ops.{upd-cases}
-use Rattle.forward.proofs.Writing.{whole-reg, value-reg}
-use Rattle.forward.proofs.Real.{set-real}
-use Rattle.forward.proofs.Executing.{after, runs, after-solid}
-use Rattle.forward.proofs.Reaching.{At, Roomy, reach, reach-prologue, reach-body, reach-idle, reach-moved, reach-epilogue, words-same}
+use Rattle.forward.specs.State.{Whole, State}
+use Rattle.forward.specs.Prologue.{Done, none}
+use Rattle.forward.specs.Epilogue.{Ran}
+use Rattle.forward.specs.Exits.{Of, here, later, InNone, Fit, full, packed}
+use Rattle.forward.specs.Stop.{codesOf, Past}
+use Rattle.forward.specs.Met.{FineRX, Fine, room, Plain, Reaches, At, Roomy, Went, Met}
+use Rattle.forward.specs.Met as Meeting
+use Rattle.forward.proofs.Executing.{done-went, after, runs}
+use Rattle.forward.proofs.Reaching.{less-room, met}
 
 -- ---- tables with one record, of a function at 0x1000
 -- word 1 of the .pdata record, and the words of the .xdata at 0x3000
@@ -65,19 +61,19 @@ abbrev pub views : Tables → View Code
 views k = orElse (view size codesAt (shape k)) (record { codes = record { list = []; endSize = 0 }; prologue = 0; exits = [] })
 
 -- what the frame's tests come to at an offset: they pass, and this is the record
-abbrev looks : Tables → ℕ → Bool × Res (Option Entry) × Res Shape × Res (View Code) × ℕ
+abbrev pub looks : Tables → ℕ → Bool × Res (Option Entry) × Res Shape × Res (View Code) × ℕ
 looks k o =
     let t : Inputs = inputs k in
     let pc : ℕ = 0x00401000 + o in
     (fitXdata (t .xdata), find (t .image) (t .pdata) pc, shapeOf (t .xdata) (own k), view size codesAt (shape k), even pc - t .image - own k .start)
 
-abbrev Looks : Tables → ℕ → Type 0
+abbrev pub Looks : Tables → ℕ → Type 0
 Looks k o = looks k o ≡ (true, ok (some (own k)), ok (shape k), ok (views k), o)
 
-abbrev Near : Tables → ℕ → Type 0
+abbrev pub Near : Tables → ℕ → Type 0
 Near k o = (o < shape k .span) × (0x00401000 + o < 2 ^ 32)
 
-known : (k : Tables) (o : ℕ) → Looks k o → Near k o → At (inputs k) (own k) (shape k) (views k) (0x00401000 + o) o
+pub known : (k : Tables) (o : ℕ) → Looks k o → Near k o → At (inputs k) (own k) (shape k) (views k) (0x00401000 + o) o
 known k o e n = record {
   passes1 = ap (λ x. x .0) e;
   found = ap (λ x. x .1) e;
@@ -88,51 +84,97 @@ known k o e n = record {
   small = n .1;
 }
 
--- an entry: any registers but pc and SP, and any stack with 256 bytes below SP
+-- an entry: any registers but pc and SP, and any stack with 1,024 bytes below SP
 pub record Entered (e : State) : Type 0 where
-  pub roomy : Roomy e 256
+  pub roomy : Roomy e 1024
   pub pc : e .regs .pc ≡ 0x00401000
 
--- such an entry, from any registers: SP at 0x20100 in a stack of 512 bytes
+-- such an entry, from any registers: SP at 0x20400 in a stack of 1,280 bytes
 unfoldable pub entry : (g : Regs) → Whole g → State
 entry g w =
-    record { regs = record { r = g .r; sp = 0x20100; lr = g .lr; pc = 0x00401000; d = g .d }; stack = lent 0x20000 (replicate 0x200 0); whole = record { r = w .r; d = w .d } }
+    record { regs = record { r = g .r; sp = 0x20400; lr = g .lr; pc = 0x00401000; d = g .d }; stack = lent 0x20000 (replicate 0x500 0); whole = record { r = w .r; d = w .d } }
 
 pub entered : (g : Regs) (w : Whole g) → Entered (entry g w)
 unfolding entry
 entered g w = record { roomy = record { fit = refl; aligned = refl; high = omega arith; low = omega arith }; pc = refl }
 
 module _ (k : Tables) (e : State) (h : Entered e) where
-  in-prologue :
+  abbrev Here : (pc o : ℕ) → Type 0
+  Here pc o = At (inputs k) (own k) (shape k) (views k) pc o
+
+  abbrev all : Met (inputs k) (own k) (shape k) (views k) e
+  all = met (inputs k) (own k) (shape k) (views k) e
+
+  from-entry : (o : ℕ) → Looks k o → Near k o → Here (e .regs .pc + o) o
+  from-entry o a n = subst (λ pc. Here (pc + o) o) (sym (h .pc)) (known k o a n)
+
+  pub in-prologue :
       (ahead done : List Code) → Looks k (total size done) → codesOf (views k) ≡ ahead ++ done → Fine done
-      → Near k (total size done) × (total size done < views k .prologue) × (room done ≤ 256)
+      → Near k (total size done) × (total size done < views k .prologue) × (room done ≤ 1024)
       → Reaches (inputs k) e (total size done) Prologue done
   in-prologue ahead done a q f n =
-      reach-prologue e ahead done (known k (total size done) a (n .0)) (h .roomy) q (n .1) f (n .2) (omega (arith, h .pc))
+      all .onward e ahead done done [] (from-entry (total size done) a (n .0)) q (sym (append-nil done)) (n .1) f (less-room (n .2) (h .roomy)) none (λ w. w) .0
 
-  in-body :
-      (o : ℕ) → Looks k o → InNone o (views k .exits) → Fine (codesOf (views k)) → Near k o × (views k .prologue ≤ o) × (room (codesOf (views k)) ≤ 256)
+  pub in-body :
+      (o : ℕ) → Looks k o → InNone o (views k .exits) → Fine (codesOf (views k)) → Near k o × (views k .prologue ≤ o) × (room (codesOf (views k)) ≤ 1024)
       → Reaches (inputs k) e o Body (codesOf (views k))
-  in-body o a i f n = reach-idle e (known k o a (n .0)) (h .roomy) (n .1) i f (n .2)
+  in-body o a i f n = all .everywhere o Body (codesOf (views k)) (Meeting.body (n .1) i) (from-entry o a (n .0)) f (less-room (n .2) (h .roomy))
 
-  -- SP moved down by some words, after rX = SP
-  in-moved :
-      (o x m down : ℕ) (cs : List Code) → Looks k o → InNone o (views k .exits) → Fine (codesOf (views k))
-      → codesOf (views k) ≡ record { undo = SpFrom x; size = halfwords m } ∷ cs
-      → Near k o × (views k .prologue ≤ o) × (room (codesOf (views k)) + 4 * down ≤ 256)
-      → Reaches (inputs k) e o Body (codesOf (views k))
-  in-moved o x m down cs a i f q n = reach-moved e x m down cs (known k o a (n .0)) (h .roomy) (n .1) i f q (n .2)
-
-  in-epilogue :
+  pub in-epilogue :
       {sc : Scope} {ex : Exit Code} (done todo : List Code) → Looks k (ex .start + total size done) → Of sc ex (shape k .scopes) (views k .exits)
       → Fit (own k) sc
       → ex .condition ≡ always
       → ex .codes .list ≡ done ++ todo
       → Fine (codesOf (views k))
-      → Near k (ex .start + total size done) × (total size done < ex .size) × (room (codesOf (views k)) ≤ 256)
+      → Near k (ex .start + total size done) × (total size done < ex .size) × (room (codesOf (views k)) ≤ 1024)
       → Reaches (inputs k) e (ex .start + total size done) Epilogue todo
   in-epilogue {ex = ex} done todo a o fit c q f n =
-      reach-epilogue e (0x00401000 + ex .start) done todo (known k (ex .start + total size done) a (n .0)) (h .roomy) f (n .2) o fit c q (n .1) (omega arith)
+      all .everywhere (ex .start + total size done) Epilogue todo (Meeting.epilogue done todo o fit c q (n .1)) (from-entry (ex .start + total size done) a (n .0)) f
+      (less-room (n .2) (h .roomy))
+
+  -- in a state of the prologue's own
+  pub in-onward :
+      (mid : State) (ahead more done : List Code) → Looks k (total size (more ++ done)) → codesOf (views k) ≡ ahead ++ (more ++ done) → Fine (more ++ done)
+      → Near k (total size (more ++ done)) × (total size (more ++ done) < views k .prologue) × (room (more ++ done) ≤ 1024)
+      → Done e done mid
+      → mid .regs .pc + total size more ≡ 0x00401000 + total size (more ++ done)
+      → (Plain e → Plain mid)
+      → (r : Reaches (inputs k) e (total size (more ++ done)) Prologue (more ++ done)) × Went done mid more (r .now)
+  in-onward mid ahead more done a q f n d z w =
+      all .onward mid ahead (more ++ done) more done
+      (subst (λ pc. Here pc (total size (more ++ done))) (sym z) (known k (total size (more ++ done)) a (n .0))) q refl (n .1) f (less-room (n .2) (h .roomy)) d w
+
+  -- in a state of the body's own
+  pub in-used :
+      (o : ℕ) (now : State) → Looks k o → InNone o (views k .exits) → Near k o × (views k .prologue ≤ o) → Past (codesOf (views k)) e now
+      → now .regs .pc ≡ 0x00401000 + o
+      → (Plain e → Plain now)
+      → (r : Reaches (inputs k) e o Body (codesOf (views k))) × (r .now ≡ now)
+  in-used o now a i n p q w =
+      all .used o now (subst (λ pc. Here pc o) (sym q) (known k o a (n .0))) (n .1) i (less-room (omega arith) (h .roomy)) p w
+
+  -- in an epilogue, from states of the body's and the epilogue's own
+  pub in-leaving :
+      {sc : Scope} {ex : Exit Code} (start mid : State) (gone more undone : List Code) → Looks k (ex .start + total size (gone ++ more))
+      → Of sc ex (shape k .scopes) (views k .exits)
+      → Fit (own k) sc
+      → ex .condition ≡ always
+      → ex .codes .list ≡ (gone ++ more) ++ undone
+      → Near k (ex .start + total size (gone ++ more)) × (total size (gone ++ more) < ex .size)
+      → Past (codesOf (views k)) e start
+      → Ran (RX (codesOf (views k))) gone start mid
+      → mid .regs .pc + total size more ≡ 0x00401000 + (ex .start + total size (gone ++ more))
+      → (Plain e → Plain mid)
+      → (r : Reaches (inputs k) e (ex .start + total size (gone ++ more)) Epilogue undone) × Ran (RX (codesOf (views k))) more mid (r .now)
+  in-leaving {sc} {ex} start mid gone more undone a o fit c q n p m z w =
+      let at : ℕ = ex .start + total size (gone ++ more) in
+      all .leaving sc ex start mid gone more undone (subst (λ pc. Here pc at) (sym z) (known k at a (n .0))) o fit c q (n .1) (less-room (omega arith) (h .roomy)) p m w
+
+  -- the whole prologue, as it runs from the entry
+  pub prologue-run : (cs : List Code) → Fine cs → room cs ≤ 1024 → Done e cs (after cs e)
+  prologue-run cs f n =
+      let q = append-nil cs in
+      subst (λ l. Done e l (after cs e)) q (done-went none (runs [] e cs (subst Fine (sym q) f) (omega (arith, h .roomy .low)) (h .roomy .high) .went))
 
 abbrev pub code : Undo → ℕ → Code
 code u n = record { undo = u; size = halfwords n }
@@ -147,11 +189,18 @@ up2 = code (Up (stackWords 2)) 1
 abbrev pub up4 : Code
 up4 = code (Up (stackWords 4)) 1
 
+abbrev pub up128 : Code
+up128 = code (Up (stackWords 128)) 2
+
 abbrev pub nop : Code
 nop = code Nothing 2
 
 abbrev pub pop45 : Code
 pop45 = code (Pop (2 ^ 4 + 2 ^ 5)) 1
+
+-- a pop with LR takes 32 bits
+abbrev pub pop45lrWide : Code
+pop45lrWide = code (Pop (2 ^ 4 + 2 ^ 5 + 2 ^ 14)) 2
 
 abbrev pub pop45lr : Code
 pop45lr = code (Pop (2 ^ 4 + 2 ^ 5 + 2 ^ 14)) 1
@@ -173,6 +222,9 @@ vpop89 = code (Vpop 8 9) 2
 
 abbrev pub lr5 : Code
 lr5 = code (LoadLr (stackWords 5)) 2
+
+abbrev pub lr2 : Code
+lr2 = code (LoadLr (stackWords 2)) 2
 
 abbrev pub spR7 : Code
 spR7 = code (SpFrom 7) 1
@@ -244,51 +296,6 @@ chain-A e h = in-body chain e h 0xA refl (inl (omega arith), tt) (tt, (tt, (tt, 
 pub chain-1C : (e : State) → Entered e → Reaches (inputs chain) e 0x1C Epilogue (pop4511lr ∷ [])
 unfolding opened
 chain-1C e h = in-epilogue chain e h (up2 ∷ []) (pop4511lr ∷ []) refl here (packed (λ q. omega arith) (λ d. refl)) refl refl (tt, (tt, (tt, tt))) (omega arith)
-
--- the nop sets r11, which is saved before
-sets : (e : State) (v : ℕ) → State
-sets e v =
-    let s : State = after (pop4511lr ∷ []) e in
-    let w : Whole (setReg (s .regs) 11 v) = whole-reg 11 v (s .whole) in
-    record { regs = setPc (setReg (s .regs) 11 v) 0x00401008; stack = s .stack; whole = record { r = w .r; d = w .d } }
-
-sets-rests : (e : State) (v : ℕ) → Rests (pop4511lr ∷ []) (after (pop4511lr ∷ []) e) (sets e v)
-unfolding sets
-sets-rests e v =
-    let g : Regs = after (pop4511lr ∷ []) e .regs in
-    let ne : _≢_ {A = ℕ} 11 13 = λ q. omega arith in
-    let same = value-reg g 11 v (after (pop4511lr ∷ []) e .whole) (omega arith) ne in
-    record {
-      stack = refl;
-      sp = refl;
-      rX = λ x q. absurd (no x q);
-      unsaved = λ x l n.
-          ap (λ f. f x) same
-          ∙ upd-cases (λ z. z ≡ value g x) (value g) 11 v x (λ q. absurd (n (inl (inr (inr (inl q)))))) (λ q. refl);
-    }
-  where
-    no : (x : ℕ) → RX (pop4511lr ∷ []) x → ⊥
-    no x (inl q) = q
-    no x (inr q) = q
-
-pub chain-8-set : (e : State) (v : ℕ) → v < 2 ^ 32 → Entered e → Reaches (inputs chain) e 8 Prologue (nop ∷ pop4511lr ∷ [])
-unfolding opened sets
-chain-8-set e v b h =
-    let done : List Code = pop4511lr ∷ [] in
-    let w = runs e done (tt, tt) (omega (arith, h .roomy .low)) (h .roomy .high) in
-    reach e (sets e v) Prologue (nop ∷ done) (known chain 8 refl (omega arith)) (h .roomy) refl (w .base) (w .long)
-    (λ x.
-    let y = after-solid e done x in
-    let z = set-real 11 v (y .real) b in
-    record { real = record { r = z .r; lr = z .lr; d = z .d }; bytes = y .bytes; sp = y .sp })
-    (prologue {undone = nop ∷ done} (record {
-      ahead = up2 ∷ [];
-      codes = refl;
-      offset = refl;
-      early = omega arith;
-      done = next nop (w .done) (sets-rests e v);
-      stays = omega (arith, w .sp, w .base, h .roomy .low);
-    }))
 
 -- ---- no L: LR is not saved, and bx lr ends the epilogue
 abbrev pub leaf : Tables
@@ -375,7 +382,7 @@ unfolding opened
 part-1E e h = in-epilogue part e h (up2 ∷ []) (pop45lr ∷ []) refl here (packed (λ q. omega arith) (λ d. refl)) refl refl (tt, (tt, tt)) (omega arith)
 
 -- r7 is saved before it takes SP
-rx7 : FineRX (pop4to9lr ∷ up4 ∷ []) 7
+pub rx7 : FineRX (pop4to9lr ∷ up4 ∷ []) 7
 rx7 = record { named = omega arith; other = λ q. omega arith; once = λ y q. no y q; saved = λ l. inl (inr (inr (inr (inl refl)))) }
   where
     no : (y : ℕ) → RX (pop4to9lr ∷ up4 ∷ []) y → ⊥
@@ -406,11 +413,6 @@ framed-142 e h = in-epilogue framed e h (spR7 ∷ []) (pop4to9lr ∷ up4 ∷ [])
 pub framed-148 : (e : State) → Entered e → Reaches (inputs framed) e 0x148 Epilogue []
 unfolding opened
 framed-148 e h = in-epilogue framed e h (spR7 ∷ pop4to9lr ∷ up4 ∷ []) [] refl here (full refl refl) refl refl (rx7, (tt, (tt, tt))) (omega arith)
-
--- SP four words lower
-pub framed-A : (e : State) → Entered e → Reaches (inputs framed) e 0xA Body (spR7 ∷ pop4to9lr ∷ up4 ∷ [])
-unfolding opened
-framed-A e h = in-moved framed e h 0xA 7 1 4 (pop4to9lr ∷ up4 ∷ []) refl (inl (omega arith), tt) (rx7, (tt, (tt, tt))) refl (omega arith)
 
 -- ---- E=0: a scope with condition always and index 0
 abbrev pub scoped : Tables
@@ -444,34 +446,106 @@ pub tail-14 : (e : State) → Entered e → Reaches (inputs tail) e 0x14 Epilogu
 unfolding opened
 tail-14 e h = in-epilogue tail e h [] (up2 ∷ pop45lr ∷ []) refl here (full refl refl) refl refl (tt, (tt, tt)) (omega arith)
 
--- ---- a body that has used a register it saved
-used : (e : State) (v : ℕ) → State
-used e v =
-    let s : State = after (up2 ∷ pop45lr ∷ []) e in
-    let w : Whole (setReg (s .regs) 4 v) = whole-reg 4 v (s .whole) in
-    record { regs = setPc (setReg (s .regs) 4 v) 0x00401006; stack = s .stack; whole = record { r = w .r; d = w .d } }
+-- ---- two scopes, the first with condition EQ: between them, and in the second
+abbrev pub either : Tables
+either = record { word = 0x00003000; xdata = (0x11000010 ∷ 0x00000006 ∷ 0x00E0000A ∷ 0xFFFDD502 ∷ []) }
 
-pub plain-6-used : (e : State) (v : ℕ) → v < 2 ^ 32 → Entered e → Reaches (inputs plain) e 6 Body (up2 ∷ pop45lr ∷ [])
-unfolding opened used
-plain-6-used e v b h =
-    let cs : List Code = up2 ∷ pop45lr ∷ [] in
-    let w = runs e cs (tt, (tt, tt)) (omega (arith, h .roomy .low)) (h .roomy .high) in
-    let g : Regs = after cs e .regs in
-    let ne : _≢_ {A = ℕ} 4 13 = λ q. omega arith in
-    let same = value-reg g 4 v (after cs e .whole) (omega arith) ne in
-    reach-body e (used e v) (known plain 6 refl (omega arith)) (h .roomy) (omega arith) (inl (omega arith), tt) (tt, (tt, tt)) (omega arith)
-    (record {
-      base = refl;
-      long = refl;
-      words = words-same (Wanted cs) (after cs e .stack) (g .sp) cs;
-      sp = refl;
-      rX = λ x q. absurd (no x q);
-      unsaved = λ x l n. ap (λ f. f x) same ∙ upd-cases (λ z. z ≡ value g x) (value g) 4 v x (λ q. absurd (n (inr (inl (inl q))))) (λ q. refl);
-    })
-    refl
-    (λ x. let z = set-real 4 v (x .real) b in record { real = record { r = z .r; lr = z .lr; d = z .d }; bytes = x .bytes; sp = x .sp })
-  where
-    no : (x : ℕ) → RX (up2 ∷ pop45lr ∷ []) x → ⊥
-    no x (inl q) = q
-    no x (inr (inl q)) = q
-    no x (inr (inr q)) = q
+pub either-12 : (e : State) → Entered e → Reaches (inputs either) e 0x12 Body (up2 ∷ pop45lr ∷ [])
+unfolding opened
+either-12 e h = in-body either e h 0x12 refl (inr (omega arith), (inl (omega arith), tt)) (tt, (tt, tt)) (omega arith)
+
+pub either-16 : (e : State) → Entered e → Reaches (inputs either) e 0x16 Epilogue (pop45lr ∷ [])
+unfolding opened
+either-16 e h = in-epilogue either e h (up2 ∷ []) (pop45lr ∷ []) refl (later here) (full refl refl) refl refl (tt, (tt, tt)) (omega arith)
+
+-- ---- EF 02: str lr,[sp,#-8]!; sub sp,#8
+abbrev pub stores : Tables
+stores = record { word = 0x00003000; xdata = (0x10200010 ∷ 0xFD02EF02 ∷ []) }
+
+pub stores-4 : (e : State) → Entered e → Reaches (inputs stores) e 0x4 Prologue (lr2 ∷ [])
+unfolding opened
+stores-4 e h = in-prologue stores e h (up2 ∷ []) (lr2 ∷ []) refl refl (omega arith, tt) (omega arith)
+
+pub stores-6 : (e : State) → Entered e → Reaches (inputs stores) e 0x6 Body (up2 ∷ lr2 ∷ [])
+unfolding opened
+stores-6 e h = in-body stores e h 0x6 refl (inl (omega arith), tt) (tt, (omega arith, tt)) (omega arith)
+
+pub stores-1A : (e : State) → Entered e → Reaches (inputs stores) e 0x1A Epilogue (lr2 ∷ [])
+unfolding opened
+stores-1A e h = in-epilogue stores e h (up2 ∷ []) (lr2 ∷ []) refl here (full refl refl) refl refl (tt, (omega arith, tt)) (omega arith)
+
+pub stores-1E : (e : State) → Entered e → Reaches (inputs stores) e 0x1E Epilogue []
+unfolding opened
+stores-1E e h = in-epilogue stores e h (up2 ∷ lr2 ∷ []) [] refl here (full refl refl) refl refl (tt, (omega arith, tt)) (omega arith)
+
+-- ---- X=1: a handler
+abbrev pub handles : Tables
+handles = record { word = 0x00003000; xdata = (0x10300010 ∷ 0xFFFDD502 ∷ 0x00005678 ∷ []) }
+
+pub handles-4 : (e : State) → Entered e → Reaches (inputs handles) e 0x4 Body (up2 ∷ pop45lr ∷ [])
+unfolding opened
+handles-4 e h = in-body handles e h 0x4 refl (inl (omega arith), tt) (tt, (tt, tt)) (omega arith)
+
+-- ---- Ret 2: LR is popped as itself, and b.w ends the epilogue
+abbrev pub branch : Tables
+branch = record { word = 0x00914041; xdata = [] }
+
+pub branch-2 : (e : State) → Entered e → Reaches (inputs branch) e 0x2 Prologue (pop45lr ∷ [])
+unfolding opened
+branch-2 e h = in-prologue branch e h (up2 ∷ []) (pop45lr ∷ []) refl refl (tt, tt) (omega arith)
+
+pub branch-4 : (e : State) → Entered e → Reaches (inputs branch) e 0x4 Body (up2 ∷ pop45lr ∷ [])
+unfolding opened
+branch-4 e h = in-body branch e h 0x4 refl (inl (omega arith), tt) (tt, (tt, tt)) (omega arith)
+
+pub branch-18 : (e : State) → Entered e → Reaches (inputs branch) e 0x18 Epilogue (pop45lrWide ∷ [])
+unfolding opened
+branch-18 e h = in-epilogue branch e h (up2 ∷ []) (pop45lrWide ∷ []) refl here (packed (λ q. omega arith) (λ d. refl)) refl refl (tt, (tt, tt)) (omega arith)
+
+pub branch-1C : (e : State) → Entered e → Reaches (inputs branch) e 0x1C Epilogue []
+unfolding opened
+branch-1C e h = in-epilogue branch e h (up2 ∷ pop45lrWide ∷ []) [] refl here (packed (λ q. omega arith) (λ d. refl)) refl refl (tt, (tt, tt)) (omega arith)
+
+-- ---- Ret 3: no epilogue
+abbrev pub never : Tables
+never = record { word = 0x00916041; xdata = [] }
+
+pub never-2 : (e : State) → Entered e → Reaches (inputs never) e 0x2 Prologue (pop45lr ∷ [])
+unfolding opened
+never-2 e h = in-prologue never e h (up2 ∷ []) (pop45lr ∷ []) refl refl (tt, tt) (omega arith)
+
+pub never-1E : (e : State) → Entered e → Reaches (inputs never) e 0x1E Body (up2 ∷ pop45lr ∷ [])
+unfolding opened
+never-1E e h = in-body never e h 0x1E refl tt (tt, (tt, tt)) (omega arith)
+
+-- ---- H without L: the home words are taken back by an add
+abbrev pub homeLeaf : Tables
+homeLeaf = record { word = 0x0081A041; xdata = [] }
+
+pub homeLeaf-4 : (e : State) → Entered e → Reaches (inputs homeLeaf) e 0x4 Prologue (pop45 ∷ up4 ∷ [])
+unfolding opened
+homeLeaf-4 e h = in-prologue homeLeaf e h (up2 ∷ []) (pop45 ∷ up4 ∷ []) refl refl (tt, (tt, tt)) (omega arith)
+
+pub homeLeaf-6 : (e : State) → Entered e → Reaches (inputs homeLeaf) e 0x6 Body (up2 ∷ pop45 ∷ up4 ∷ [])
+unfolding opened
+homeLeaf-6 e h = in-body homeLeaf e h 0x6 refl (inl (omega arith), tt) (tt, (tt, (tt, tt))) (omega arith)
+
+pub homeLeaf-1C : (e : State) → Entered e → Reaches (inputs homeLeaf) e 0x1C Epilogue (up4 ∷ [])
+unfolding opened
+homeLeaf-1C e h = in-epilogue homeLeaf e h (up2 ∷ pop45 ∷ []) (up4 ∷ []) refl here (packed (λ q. omega arith) (λ d. refl)) refl refl (tt, (tt, (tt, tt))) (omega arith)
+
+-- ---- 128 words: sub and add of 32 bits
+abbrev pub big : Tables
+big = record { word = 0x20110041; xdata = [] }
+
+pub big-2 : (e : State) → Entered e → Reaches (inputs big) e 0x2 Prologue (pop45lr ∷ [])
+unfolding opened
+big-2 e h = in-prologue big e h (up128 ∷ []) (pop45lr ∷ []) refl refl (tt, tt) (omega arith)
+
+pub big-6 : (e : State) → Entered e → Reaches (inputs big) e 0x6 Body (up128 ∷ pop45lr ∷ [])
+unfolding opened
+big-6 e h = in-body big e h 0x6 refl (inl (omega arith), tt) (tt, (tt, tt)) (omega arith)
+
+pub big-1E : (e : State) → Entered e → Reaches (inputs big) e 0x1E Epilogue (pop45lr ∷ [])
+unfolding opened
+big-1E e h = in-epilogue big e h (up128 ∷ []) (pop45lr ∷ []) refl here (packed (λ q. omega arith) (λ d. refl)) refl refl (tt, (tt, tt)) (omega arith)

@@ -2,7 +2,7 @@
 -- Assumes nothing.
 use Prim.Native.Nat.{ℕ, _+_, _-_, _≤_}
 use mathlib.Core.Path.{_≡_, refl, ap, _∙_}
-use mathlib.Core.List.{List, [], _∷_}
+use mathlib.Core.List.{List, [], _∷_, _++_}
 use lib.ListN.{length}
 use native.Mathlib.Omega.{arith}
 use Rattle.words.specs.Lent.{Lent, end}
@@ -18,7 +18,7 @@ use Rattle.forward.specs.Registers.{value}
 use Rattle.forward.specs.Saving.{saves, bytes, falls}
 use Rattle.forward.specs.State.{Whole, State, SameRest, Outside}
 use Rattle.forward.specs.Prologue.{Pushes, Does, Done, none, next}
-use Rattle.forward.specs.Met.{FineOne, Fine, room}
+use Rattle.forward.specs.Met.{FineOne, Fine, room, Went, stays, goes}
 use Rattle.forward.proofs.Ops.{upd-cases}
 use Rattle.forward.proofs.Writing.{whole-reg, value-reg}
 use Rattle.forward.proofs.Real.{Solid, set-sp-real, set-real, store-real, store-all-real}
@@ -111,10 +111,10 @@ does-exec cs (LoadLr m) n s f low high =
 does-exec cs Nothing n s f low high = record { stack = refl; sp = refl; rX = λ x q. refl; unsaved = λ x q z. refl }
 
 -- ---- a whole list
-record Place (e t : State) (down : ℕ) : Type 0 where
-  sp : t .regs .sp + down ≡ e .regs .sp
-  base : t .stack .base ≡ e .stack .base
-  long : length (t .stack .bytes) ≡ length (e .stack .bytes)
+pub record Place (e t : State) (down : ℕ) : Type 0 where
+  pub sp : t .regs .sp + down ≡ e .regs .sp
+  pub base : t .stack .base ≡ e .stack .base
+  pub long : length (t .stack .bytes) ≡ length (e .stack .bytes)
 
 pushes-place : {xs : List ℕ} {s t : State} → Pushes xs s t → Place s t (bytes xs)
 pushes-place f = record { sp = f .falls .sp; base = f .falls .stack .base; long = f .falls .stack .long }
@@ -129,26 +129,42 @@ does-place cs (LoadLr n) s t f = record { sp = f .falls .sp; base = f .falls .st
 does-place cs Nothing s t f =
     record { sp = omega (arith, f .sp); base = ap (λ (k : Lent). k .base) (f .stack); long = ap (λ (k : Lent). length (k .bytes)) (f .stack) }
 
-pub record After (e : State) (cs : List Code) : Type 0 where
-  pub done : Done e cs (after cs e)
-  pub sp : after cs e .regs .sp + room cs ≡ e .regs .sp
-  pub base : after cs e .stack .base ≡ e .stack .base
-  pub long : length (after cs e .stack .bytes) ≡ length (e .stack .bytes)
-  pub pc : after cs e .regs .pc ≡ e .regs .pc + total size cs
+-- a prologue's SP is below the entry's by what its instructions take
+pub done-place : {e t : State} {cs : List Code} → Done e cs t → Place e t (room cs)
+done-place none = record { sp = omega arith; base = refl; long = refl }
+done-place (next {cs = cs} {s = s} {t = t} c h f) =
+    let i = done-place h in
+    let p = does-place cs (c .undo) s t f in
+    record { sp = omega (arith, p .sp, i .sp); base = p .base ∙ i .base; long = p .long ∙ i .long }
 
-pub runs : (e : State) (cs : List Code) → Fine cs → e .stack .base + room cs ≤ e .regs .sp → e .regs .sp ≤ end (e .stack) → After e cs
+pub room-append : (a b : List Code) → room (a ++ b) ≡ room a + room b
+room-append [] b = omega arith
+room-append (c ∷ a) b = omega (arith, room-append a b)
+
+-- some of the instructions and then more of them
+pub done-went : {e s t : State} {before cs : List Code} → Done e before s → Went before s cs t → Done e (cs ++ before) t
+done-went h stays = h
+done-went h (goes c w f) = next c (done-went h w) f
+
+pub record After (before : List Code) (s : State) (cs : List Code) : Type 0 where
+  pub went : Went before s cs (after cs s)
+  pub place : Place s (after cs s) (room cs)
+  pub pc : after cs s .regs .pc ≡ s .regs .pc + total size cs
+
+pub runs :
+    (before : List Code) (s : State) (cs : List Code) → Fine (cs ++ before) → s .stack .base + room cs ≤ s .regs .sp → s .regs .sp ≤ end (s .stack)
+    → After before s cs
 unfolding after exec total regsAfter
-runs e [] f low high = record { done = none; sp = omega arith; base = refl; long = refl; pc = omega arith }
-runs e (c ∷ cs) f low high =
-    let i = runs e cs (f .1) (omega arith) high in
-    let s : State = after cs e in
-    let d = does-exec cs (c .undo) (c .size .0) s (f .0) (omega (arith, i .sp, i .base)) (omega (arith, i .sp, i .base, i .long)) in
-    let p = does-place cs (c .undo) s (exec c s) d in
+runs before s [] f low high = record { went = stays; place = record { sp = omega arith; base = refl; long = refl }; pc = omega arith }
+runs before s (c ∷ cs) f low high =
+    let i = runs before s cs (f .1) (omega arith) high in
+    let t : State = after cs s in
+    let p = i .place in
+    let d = does-exec (cs ++ before) (c .undo) (c .size .0) t (f .0) (omega (arith, p .sp, p .base)) (omega (arith, p .sp, p .base, p .long)) in
+    let q = does-place (cs ++ before) (c .undo) t (exec c t) d in
     record {
-      done = next c (i .done) d;
-      sp = omega (arith, p .sp, i .sp);
-      base = p .base ∙ i .base;
-      long = p .long ∙ i .long;
+      went = goes c (i .went) d;
+      place = record { sp = omega (arith, p .sp, q .sp); base = q .base ∙ p .base; long = q .long ∙ p .long };
       pc = omega (arith, i .pc);
     }
 

@@ -21,3 +21,4 @@ pub mod Real
 pub mod Executing
 pub mod Reaching
 pub mod Examples
+pub mod Earnest

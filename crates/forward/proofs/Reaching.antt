@@ -1,9 +1,9 @@
--- Every place of a record whose code list 01 allows a prologue is reached, from any state with room: the conditions can be met there.
+-- Every place of a record whose code list 01 allows a prologue is reached, from any state with room and on from any state on the way.
 -- Assumes nothing.
 use Prim.Native.Nat.{ℕ, _+_, _-_, _*_, _%_, _^_, _≤_, _<_}
 use mathlib.Core.Path.{_≡_, refl, sym, ap, ap₂, _∙_, subst}
 use mathlib.Core.Bool.{true, _&&_}
-use mathlib.Core.List.{List, [], _∷_, _++_}
+use mathlib.Core.List.{List, [], _∷_, _++_, append-nil, append-assoc}
 use mathlib.Core.Option.{some}
 use lib.ListN.{length}
 use native.Mathlib.Omega.{arith}
@@ -21,7 +21,8 @@ use Rattle.codes.specs.Code.{size, codesAt}
 use Rattle.codes.specs.declared.Code.{Code}
 use Rattle.codes.specs.declared.Undo.{Undo}
 use Rattle.codes.specs.declared.Undo.the-variants.{Up, Pop, SpFrom, Vpop, LoadLr, Nothing}
-use Rattle.machine.specs.Registers.{setPc, setSp}
+use Rattle.machine.specs.Registers.{setPc}
+use Rattle.machine.specs.declared.Regs.{Regs}
 use Rattle.machine.specs.Step.{effect}
 use Rattle.tables.specs.Pdata.{find}
 use Rattle.tables.specs.Xdata.{fitXdata}
@@ -35,19 +36,23 @@ use Rattle.forward.specs.Body.{Holds, Words, Wanted, SpAfter, SpIn}
 use Rattle.forward.specs.Body as Kept
 use Rattle.forward.specs.Epilogue.{Undoes, Leaves, Ran, none, next}
 use Rattle.forward.specs.Exits.{Of, InNone, Fit}
-use Rattle.forward.specs.Stop.{codesOf, Stopped, prologue, body, epilogue}
-use Rattle.forward.specs.Met.{Fine, room, Reaches}
+use Rattle.forward.specs.Stop.{codesOf, Past, Stopped, prologue, body, epilogue}
+use Rattle.forward.specs.Prologue.{Done}
+use Rattle.forward.specs.Prologue as Forth
+use Rattle.forward.specs.Met.{Fine, room, Plain, Reaches, At, Roomy, Boundary, Went, Begun, Everywhere, Onward, Onset, Used, Leaving, Met}
+use Rattle.forward.specs.Met as Meeting
 use Rattle.forward.proofs.Back.{St, Inv, inv-near}
 use Rattle.forward.proofs.Flat.{ops, flat}
 use Rattle.forward.proofs.Steps.{seen, st, done-fits, inv-body}
 use Rattle.forward.proofs.Undoing.{Sound, AllSound, effects}
-use Rattle.forward.proofs.Leaving.{left-stack}
+use Rattle.forward.proofs.Leaving.{left-stack, inv-left}
 use Rattle.forward.proofs.Memory.{outside-same}
 use Rattle.forward.proofs.Scanned.{codes-fair}
+use Rattle.forward.proofs.Ready.{sound-end}
 use Rattle.forward.proofs.Viewed.{viewed, read-of}
 use Rattle.forward.proofs.Framed.{fit-second, fit-like}
 use Rattle.forward.proofs.Real.{Real, Bytes, Solid, effect-real}
-use Rattle.forward.proofs.Executing.{standing, after, runs, after-solid}
+use Rattle.forward.proofs.Executing.{standing, done-place, room-append, done-went, after, runs, after-solid}
 
 -- ---- what a state keeps of itself
 holds-same : (of : ℕ → Type 0) (k : Lent) (a : ℕ) (xs : List ℕ) → Holds of k k a xs
@@ -70,12 +75,6 @@ in-same : (cs : List Code) (base a : ℕ) → a % 4 ≡ 0 → base ≤ a → SpI
 in-same [] base a i j = refl
 in-same (c ∷ cs) base a i j = after-same (c .undo) base a i j
 
--- SP moved down
-abbrev lowered : ℕ → State → State
-lowered n s =
-    let w : Whole (s .regs) = s .whole in
-    record { regs = setSp (s .regs) (s .regs .sp - n); stack = s .stack; whole = record { r = w .r; d = w .d } }
-
 -- a body that has done nothing but go to an address
 pub idle : (cs : List Code) (s : State) (pc : ℕ) → s .regs .sp % 4 ≡ 0 → s .stack .base ≤ s .regs .sp → Kept.Body cs s (standing pc s)
 idle cs s pc i j = record {
@@ -86,6 +85,9 @@ idle cs s pc i j = record {
   rX = λ x q. refl;
   unsaved = λ x q z. refl;
 }
+
+pub stood : {g : Regs} {k : Lent} (pc : ℕ) → Solid g k → Solid (setPc g pc) k
+stood pc x = record { real = record { r = x .real .r; lr = x .real .lr; d = x .real .d }; bytes = x .bytes; sp = x .sp }
 
 -- ---- an epilogue's instructions run
 module _ (k : Lent) (e : St) (al : e .sp % 4 ≡ 0) (top : e .sp ≤ end k) (rX : ℕ → Type 0) where
@@ -137,13 +139,13 @@ module _ (k : Lent) (e : St) (al : e .sp % 4 ≡ 0) (top : e .sp ≤ end k) (rX 
   leaves-one Nothing cs pc s o q v =
       record { now = standing pc s; leaves = record { sp = refl; rest = λ x h. refl; stack = refl }; at = refl; inv = v; stack = q; real = λ b h. record { r = h .r; lr = h .lr; d = h .d } }
 
-  gone : (done todo : List Code) (s : State) → AllSound (done ++ todo) → s .stack ≡ k → Inv (k .base) e (flat (done ++ todo)) (seen (s .regs)) (wordAt k) → Gone done s
+  leave : (done todo : List Code) (s : State) → AllSound (done ++ todo) → s .stack ≡ k → Inv (k .base) e (flat (done ++ todo)) (seen (s .regs)) (wordAt k) → Gone done s
   unfolding total
-  gone [] todo s o q v =
+  leave [] todo s o q v =
       record { now = s; left = none; pc = omega arith; sp = inv-near (k .base) e al v .high; real = λ b h. h }
-  gone (c ∷ done) todo s o q v =
+  leave (c ∷ done) todo s o q v =
       let n = leaves-one (c .undo) (done ++ todo) (s .regs .pc + size c) s (o .0) q v in
-      let i = gone done todo (n .now) (o .1) (n .stack) (n .inv) in
+      let i = leave done todo (n .now) (o .1) (n .stack) (n .inv) in
       record {
         now = i .now;
         left = next c (n .leaves) (i .left);
@@ -152,22 +154,12 @@ module _ (k : Lent) (e : St) (al : e .sp % 4 ≡ 0) (top : e .sp ≤ end k) (rX 
         real = λ b h. i .real b (n .real b h);
       }
 
--- ---- the record at a pc
-pub record At (t : Inputs) (own : Entry) (s : Shape) (v : View Code) (pc o : ℕ) : Type 0 where
-  pub passes1 : fitXdata (t .xdata) ≡ true
-  pub found : find (t .image) (t .pdata) pc ≡ ok (some own)
-  pub passes4-5 : shapeOf (t .xdata) own ≡ ok s
-  pub passes6-7 : view size codesAt s ≡ ok v
-  pub here : o ≡ even pc - t .image - own .start
-  pub covers : o < s .span
-  pub small : pc < 2 ^ 32
+-- ---- a state in which the function stands
+pub solid-of : {s : State} → Plain s → Solid (s .regs) (s .stack)
+solid-of w = record { real = record { r = w .r; lr = w .lr; d = w .d }; bytes = w .bytes; sp = w .sp }
 
--- a stack that passes 1, with n bytes below SP
-pub record Roomy (e : State) (n : ℕ) : Type 0 where
-  pub fit : fitStack (e .stack) ≡ true
-  pub aligned : e .regs .sp % 4 ≡ 0
-  pub high : e .regs .sp ≤ end (e .stack)
-  pub low : e .stack .base + n ≤ e .regs .sp
+pub plain-of : {s : State} → Solid (s .regs) (s .stack) → s .regs .pc < 2 ^ 32 → Plain s
+plain-of x h = record { r = x .real .r; sp = x .sp; lr = x .real .lr; pc = h; d = x .real .d; bytes = x .bytes }
 
 -- all but the run itself
 pub reach :
@@ -175,7 +167,7 @@ pub reach :
     → now .regs .pc ≡ pc
     → now .stack .base ≡ e .stack .base
     → length (now .stack .bytes) ≡ length (e .stack .bytes)
-    → (Solid (e .regs) (e .stack) → Solid (now .regs) (now .stack))
+    → (Plain e → Solid (now .regs) (now .stack))
     → Stopped own s v e o now p cs
     → Reaches t e o p cs
 reach {t} {own} {s} {v} {pc} {o} e now p cs a r q b l solid h = record {
@@ -201,110 +193,131 @@ reach {t} {own} {s} {v} {pc} {o} e now p cs a r q b l solid h = record {
   here = refl;
   place = refl;
   codes = refl;
-  plain = λ w.
-      let x = solid (record { real = record { r = w .r; lr = w .lr; d = w .d }; bytes = w .bytes; sp = w .sp }) in
-      record { r = x .real .r; sp = x .sp; lr = x .real .lr; pc = omega (arith, q, a .small); d = x .real .d; bytes = x .bytes };
+  plain = λ w. plain-of (solid w) (omega (arith, q, a .small));
 }
 
-module _ {t : Inputs} {own : Entry} {s : Shape} {v : View Code} {pc n : ℕ} (e : State) where
-  -- in the prologue, from an entry at the function's start
-  pub reach-prologue :
-      (ahead done : List Code) → At t own s v pc (total size done) → Roomy e n → codesOf v ≡ ahead ++ done → total size done < v .prologue → Fine done → room done ≤ n
-      → e .regs .pc + total size done ≡ pc
-      → Reaches t e (total size done) Prologue done
-  reach-prologue ahead done a r q h f m z =
-      let w = runs e done f (omega (arith, r .low)) (r .high) in
-      reach e (after done e) Prologue done a r (w .pc ∙ z) (w .base) (w .long) (after-solid e done)
-      (prologue (record { ahead = ahead; codes = q; offset = refl; early = h; done = w .done; stays = omega (arith, w .sp, w .base, r .low) }))
+-- ---- the prologue
+-- the instructions of more codes, from a state that some of them left
+record Further (e mid : State) (cs more done : List Code) : Type 0 where
+  went : Went done mid more (after more mid)
+  whole : Done e cs (after more mid)
+  low : after more mid .stack .base ≤ after more mid .regs .sp
+  base : after more mid .stack .base ≡ e .stack .base
+  long : length (after more mid .stack .bytes) ≡ length (e .stack .bytes)
+  pc : after more mid .regs .pc ≡ mid .regs .pc + total size more
 
-  -- in the body, in any state that it may leave
-  pub reach-body :
-      {o : ℕ} (now : State) → At t own s v pc o → Roomy e n → v .prologue ≤ o → InNone o (v .exits) → Fine (codesOf v) → room (codesOf v) ≤ n
-      → Kept.Body (codesOf v) (after (codesOf v) e) now
-      → now .regs .pc ≡ pc
-      → (Solid (after (codesOf v) e .regs) (after (codesOf v) e .stack) → Solid (now .regs) (now .stack))
-      → Reaches t e o Body (codesOf v)
-  reach-body now a r h i f m k z solid =
-      let w = runs e (codesOf v) f (omega (arith, r .low)) (r .high) in
-      reach e now Body (codesOf v) a r z (k .base ∙ w .base) (k .long ∙ w .long) (λ x. solid (after-solid e (codesOf v) x))
-      (body (record { late = h; outside = i; past = record { left = after (codesOf v) e; done = w .done; stays = omega (arith, w .sp, w .base, r .low); keeps = k } }))
+goes-on : (e mid : State) (cs more done : List Code) → cs ≡ more ++ done → Fine cs → Roomy e (room cs) → Done e done mid → Further e mid cs more done
+goes-on e mid cs more done q f r d =
+    let i = done-place d in
+    let n : room cs ≡ room more + room done = ap room q ∙ room-append more done in
+    let x = runs done mid more (subst Fine q f) (omega (arith, i .sp, i .base, r .low)) (omega (arith, i .sp, i .base, i .long, r .high)) in
+    let p = x .place in
+    record {
+      went = x .went;
+      whole = subst (λ l. Done e l (after more mid)) (sym q) (done-went d (x .went));
+      low = omega (arith, p .sp, p .base, i .sp, i .base, r .low);
+      base = p .base ∙ i .base;
+      long = p .long ∙ i .long;
+      pc = x .pc;
+    }
 
-  -- in a body that has done nothing yet
-  pub reach-idle :
-      {o : ℕ} → At t own s v pc o → Roomy e n → v .prologue ≤ o → InNone o (v .exits) → Fine (codesOf v) → room (codesOf v) ≤ n → Reaches t e o Body (codesOf v)
-  reach-idle a r h i f m =
-      let w = runs e (codesOf v) f (omega (arith, r .low)) (r .high) in
-      reach-body (standing pc (after (codesOf v) e)) a r h i f m
-      (idle (codesOf v) (after (codesOf v) e) pc (done-fits (w .done) (r .aligned) .1) (omega (arith, w .sp, w .base, r .low)))
-      refl
-      (λ x. let y = x .real in record { real = record { r = y .r; lr = y .lr; d = y .d }; bytes = x .bytes; sp = x .sp })
+onward : {t : Inputs} {own : Entry} {s : Shape} {v : View Code} (e : State) → Onward t own s v e
+unfolding reach
+onward e mid ahead undone more done a q z h f r d w =
+    let x = goes-on e mid undone more done z f r d in (
+      reach e (after more mid) Prologue undone a r (x .pc) (x .base) (x .long) (λ y. after-solid mid more (solid-of (w y)))
+          (prologue (record { ahead = ahead; codes = q; offset = refl; early = omega (arith, h); done = x .whole; stays = x .low })),
+      x .went,
+    )
 
-  -- in a body that has moved SP down after a rX = SP
-  pub reach-moved :
-      {o : ℕ} (x m down : ℕ) (cs : List Code) → At t own s v pc o → Roomy e n → v .prologue ≤ o → InNone o (v .exits) → Fine (codesOf v)
-      → codesOf v ≡ record { undo = SpFrom x; size = record { 0 = m } } ∷ cs
-      → room (codesOf v) + 4 * down ≤ n
-      → Reaches t e o Body (codesOf v)
-  reach-moved x k down cs a r h i f q m =
-      let P : List Code = codesOf v in
-      let w = runs e P f (omega (arith, r .low)) (r .high) in
-      let left : State = after P e in
-      let b = idle P left pc (done-fits (w .done) (r .aligned) .1) (omega (arith, w .sp, w .base, r .low)) in
-      let fits = done-fits (w .done) (r .aligned) in
-      reach-body (lowered (4 * down) (standing pc left)) a r h i f (omega arith)
-      (record {
-        base = b .base;
-        long = b .long;
-        words = b .words;
-        sp = subst (λ (l : List Code). SpIn l (left .stack .base) (left .regs .sp) (left .regs .sp - 4 * down)) (sym q)
-            (omega (arith, fits .1, w .sp, w .base, r .low), omega (arith, w .sp, w .base, r .low), omega arith);
-        rX = b .rX;
-        unsaved = b .unsaved;
-      })
-      refl
-      (λ x. let y = x .real in record { real = record { r = y .r; lr = y .lr; d = y .d }; bytes = x .bytes; sp = omega (arith, x .sp) })
+onset : (e : State) → Onset e
+onset e mid cs more done pc q f r b d w =
+    let x = goes-on e mid cs more done q f r d in
+    let left : State = after more mid in
+    record {
+      start = standing pc left;
+      past = record { left = left; done = x .whole; stays = x .low; keeps = idle cs left pc (done-fits (x .whole) (r .aligned) .1) (x .low) };
+      went = x .went;
+      at = refl;
+      plain = λ y. plain-of (stood pc (after-solid mid more (solid-of (w y)))) b;
+    }
 
-  -- in an epilogue, from a body that went to its start
-  pub reach-epilogue :
-      {sc : Scope} {ex : Exit Code} (start : ℕ) (done todo : List Code) → At t own s v pc (ex .start + total size done) → Roomy e n → Fine (codesOf v) → room (codesOf v) ≤ n
-      → Of sc ex (s .scopes) (v .exits)
-      → Fit own sc
-      → ex .condition ≡ always
-      → ex .codes .list ≡ done ++ todo
-      → total size done < ex .size
-      → start + total size done ≡ pc
-      → Reaches t e (ex .start + total size done) Epilogue todo
-  reach-epilogue {sc} {ex} start done todo a r f m of fit c q h z =
-      let w = runs e (codesOf v) f (omega (arith, r .low)) (r .high) in
-      let left : State = after (codesOf v) e in
-      let low : left .stack .base ≤ left .regs .sp = omega (arith, w .sp, w .base, r .low) in
-      let fits = done-fits (w .done) (r .aligned) in
-      let kept : State = standing start left in
-      let b : Kept.Body (codesOf v) left kept = idle (codesOf v) left start (fits .1) low in
-      let y = viewed s v (a .passes6-7) in
-      let x = read-of s (y .exits) of in
-      let second = fit-second (t .xdata) own s v (a .passes4-5) y sc ex of fit in
-      let i = second .inv _ _ _ _ (inv-body (r .aligned) (w .done) low b) in
-      let top : e .regs .sp ≤ end (left .stack) = omega (arith, r .high, w .base, w .long) in
-      let g = gone (left .stack) (st e) (r .aligned) top (RX (codesOf v)) done todo kept (subst AllSound q (codes-fair _ _ _ (x .codes) .0)) refl
-      (subst (λ l. Inv (left .stack .base) (st e) (flat l) (seen (kept .regs)) (wordAt (left .stack))) q i) in
-      let same : g .now .stack ≡ left .stack = left-stack (g .left) in
-      reach e (g .now) Epilogue todo a r (g .pc ∙ z) (ap (λ (k : Lent). k .base) same ∙ w .base) (ap (λ (k : Lent). length (k .bytes)) same ∙ w .long)
-      (λ x.
-      let y = after-solid e (codesOf v) x in
-      let u = y .real in
-      record { real = g .real (y .bytes) (record { r = u .r; lr = u .lr; d = u .d }); bytes = subst Bytes (sym same) (y .bytes); sp = omega (arith, g .sp, x .sp) })
-      (epilogue (record {
-        scope = sc;
-        exit = ex;
-        listed = of;
-        fit = fit;
-        unconditional = c;
-        gone = done;
-        codes = q;
-        offset = refl;
-        inside = h;
-        start = kept;
-        past = record { left = left; done = w .done; stays = low; keeps = b };
-        ran = g .left;
-      }))
+-- ---- the body
+used : {t : Inputs} {own : Entry} {s : Shape} {v : View Code} (e : State) → Used t own s v e
+unfolding reach
+used {v} e o now a h i r p w =
+    let d = done-place (p .done) in
+    let k = p .keeps in
+    (reach e now Body (codesOf v) a r refl (k .base ∙ d .base) (k .long ∙ d .long) (λ y. solid-of (w y)) (body (record { late = h; outside = i; past = p })), refl)
+
+-- ---- an epilogue
+ran-on : {rX : ℕ → Type 0} {gone more : List Code} {s t u : State} → Ran rX gone s t → Ran rX more t u → Ran rX (gone ++ more) s u
+ran-on none m = m
+ran-on (next c f g) m = next c f (ran-on g m)
+
+leaving : {t : Inputs} {own : Entry} {s : Shape} {v : View Code} (e : State) → Leaving t own s v e
+unfolding reach
+leaving {t} {own} {s} {v} e sc ex start mid gone more undone a of fit c q h r p m w =
+    let y = viewed s v (a .passes6-7) in
+    let x = read-of s (y .exits) of in
+    let second = fit-second (t .xdata) own s v (a .passes4-5) y sc ex of fit in
+    let k : Lent = start .stack in
+    let d = done-place (p .done) in
+    let base : k .base ≡ e .stack .base = p .keeps .base ∙ d .base in
+    let long : length (k .bytes) ≡ length (e .stack .bytes) = p .keeps .long ∙ d .long in
+    let top : e .regs .sp ≤ end k = omega (arith, r .high) in
+    let z : ex .codes .list ≡ gone ++ (more ++ undone) = q ∙ append-assoc gone more undone in
+    let sound : AllSound (gone ++ (more ++ undone)) = subst AllSound z (codes-fair _ _ _ (x .codes) .0) in
+    let inv = subst (λ l. Inv (k .base) (st e) (flat l) (seen (start .regs)) (wordAt k)) z
+    (second .inv _ _ _ _ (inv-body (r .aligned) (p .done) (p .stays) (p .keeps))) in
+    let at = inv-left k (st e) (r .aligned) top (RX (codesOf v)) (more ++ undone) sound (λ x b. second .rX x (subst (λ l. RX l x) (sym z) b)) m refl inv in
+    let here : mid .stack ≡ k = left-stack m in
+    let g = leave k (st e) (r .aligned) top (RX (codesOf v)) more undone mid (sound-end gone (more ++ undone) sound) here at in
+    let same : g .now .stack ≡ k = subst (λ (l : Lent). g .now .stack ≡ l) here (left-stack {t = g .now} (g .left)) in (
+      reach e (g .now) Epilogue undone a r (g .pc) (ap (λ (l : Lent). l .base) same ∙ base) (ap (λ (l : Lent). length (l .bytes)) same ∙ long)
+          (λ b.
+          let i = solid-of (w b) in
+          let bytes : Bytes k = subst Bytes here (i .bytes) in
+          record { real = g .real bytes (i .real); bytes = subst Bytes (sym same) bytes; sp = omega (arith, g .sp, b .sp) })
+          (epilogue (record {
+            scope = sc;
+            exit = ex;
+            listed = of;
+            fit = fit;
+            unconditional = c;
+            gone = gone ++ more;
+            codes = q;
+            offset = refl;
+            inside = omega (arith, h);
+            start = start;
+            past = p;
+            ran = ran-on m (g .left);
+          })),
+      g .left,
+    )
+
+-- ---- every boundary, from any registers
+fine-end : (a b : List Code) → Fine (a ++ b) → Fine b
+fine-end [] b f = f
+fine-end (c ∷ a) b f = fine-end a b (f .1)
+
+pub less-room : {e : State} {m n : ℕ} → n ≤ m → Roomy e m → Roomy e n
+less-room h r = record { fit = r .fit; aligned = r .aligned; high = r .high; low = omega (arith, r .low) }
+
+everywhere : {t : Inputs} {own : Entry} {s : Shape} {v : View Code} (e : State) → Everywhere t own s v e
+everywhere e o p u (Meeting.prologue ahead undone q h) a f r =
+    let n = ap room q ∙ room-append ahead undone in
+    onward e e ahead undone undone [] a q (sym (append-nil undone)) h (fine-end ahead undone (subst Fine q f)) (less-room (omega (arith, n)) r) Forth.none (λ w. w) .0
+everywhere {t} {own} {s} {v} e o p u (Meeting.body h i) a f r =
+    let cs : List Code = codesOf v in
+    let b = onset e e cs cs [] (e .regs .pc + o) (sym (append-nil cs)) f r (a .small) Forth.none (λ w. w) in
+    used e o (b .start) (subst (λ pc. At t own s v pc o) (sym (b .at)) a) h i (less-room (omega arith) r) (b .past) (b .plain) .0
+everywhere {t} {own} {s} {v} e o p u (Meeting.epilogue {sc = sc} {ex = ex} gone undone of fit c q h) a f r =
+    let cs : List Code = codesOf v in
+    let b = onset e e cs cs [] (e .regs .pc + ex .start) (sym (append-nil cs)) f r (omega (arith, a .small)) Forth.none (λ w. w) in
+    let z : e .regs .pc + (ex .start + total size gone) ≡ b .start .regs .pc + total size gone = omega (arith, b .at) in
+    leaving e sc ex (b .start) (b .start) [] gone undone (subst (λ pc. At t own s v pc (ex .start + total size gone)) z a) of fit c q h (less-room (omega arith) r) (b .past)
+    none (b .plain) .0
+
+pub met : (t : Inputs) (own : Entry) (s : Shape) (v : View Code) (e : State) → Met t own s v e
+met t own s v e = record { everywhere = everywhere e; onward = onward e; onset = onset e; used = used e; leaving = leaving e }

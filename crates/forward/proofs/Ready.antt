@@ -40,7 +40,7 @@ pub record Ready (v : View Code) (entry : State) (o : ℕ) (now : State) (p : Pl
   pub sound : AllSound cs
   pub inv : Inv (now .stack .base) (st entry) (flat cs) (seen (now .regs)) (wordAt (now .stack))
 
-sound-end : (a b : List Code) → AllSound (a ++ b) → AllSound b
+pub sound-end : (a b : List Code) → AllSound (a ++ b) → AllSound b
 sound-end [] b h = h
 sound-end (c ∷ a) b h = sound-end a b (h .1)
 

@@ -1,17 +1,38 @@
--- That the conditions of demand 3 can be met: which code lists have a prologue at all, and what it is to reach a place of a record.
-use Prim.Native.Nat.{ℕ, _+_, _^_, _<_}
+-- That the conditions of demand 3 can be met: which code lists have a prologue at all, what it is to reach a place of a record, and that
+-- every place is reached, from any registers and on from any state in which a function may stand.
+use Prim.Native.Nat.{ℕ, _+_, _-_, _%_, _^_, _≤_, _<_}
 use mathlib.Core.Path.{_≡_}
 use mathlib.Core.Logic.{_≢_}
-use mathlib.Core.List.{List, [], _∷_}
+use mathlib.Core.List.{List, [], _∷_, _++_}
+use mathlib.Core.Bool.{true}
+use mathlib.Core.Option.{some}
 use lib.ListN.{getD}
+use Rattle.words.specs.Bits.{even}
+use Rattle.words.specs.Lent.{end}
 use Rattle.words.specs.declared.Place.{Place}
+use Rattle.words.specs.declared.Place.the-variants.{Prologue, Body, Epilogue}
+use Rattle.unwinding.specs.Answer.{ok}
+use Rattle.unwinding.specs.CodeList.{total}
+use Rattle.unwinding.specs.Shape.{Shape}
+use Rattle.unwinding.specs.View.{Exit, View, view}
+use Rattle.unwinding.specs.Todo.{always}
+use Rattle.unwinding.specs.declared.Scope.{Scope}
+use Rattle.codes.specs.Code.{size, codesAt}
 use Rattle.codes.specs.declared.Code.{Code}
 use Rattle.codes.specs.declared.Undo.{Undo}
 use Rattle.codes.specs.declared.Undo.the-variants.{Up, Pop, SpFrom, Vpop, LoadLr, Nothing}
-use Rattle.frame.specs.Frame.{Inputs}
+use Rattle.tables.specs.Pdata.{find}
+use Rattle.tables.specs.Xdata.{fitXdata}
+use Rattle.tables.specs.Record.{shapeOf}
+use Rattle.tables.specs.declared.Entry.{Entry}
+use Rattle.frame.specs.Frame.{Inputs, fitStack}
 use Rattle.forward.specs.Registers.{Lasting}
 use Rattle.forward.specs.Saving.{falls, Saved, RX}
 use Rattle.forward.specs.State.{State}
+use Rattle.forward.specs.Prologue.{Does, Done}
+use Rattle.forward.specs.Epilogue.{Ran}
+use Rattle.forward.specs.Exits.{Of, InNone, Fit}
+use Rattle.forward.specs.Stop.{codesOf, Past}
 use Rattle.forward.specs.Demand.{lending, Asked}
 
 -- what 01 asks of a rX = SP: rX is a register, it is the only one, and it is saved before if it is r4-r11 or LR
@@ -56,3 +77,114 @@ pub record Reaches (t : Inputs) (entry : State) (offset : ℕ) (p : Place) (undo
   pub place : asked .place ≡ p
   pub codes : asked .undone ≡ undone
   pub plain : Plain entry → Plain now
+
+-- what the conditions ask of the tables: they pass 1 to 7 and this is their record at the pc, which stands at this offset of its function
+pub record At (t : Inputs) (own : Entry) (s : Shape) (v : View Code) (pc o : ℕ) : Type 0 where
+  pub passes1 : fitXdata (t .xdata) ≡ true
+  pub found : find (t .image) (t .pdata) pc ≡ ok (some own)
+  pub passes4-5 : shapeOf (t .xdata) own ≡ ok s
+  pub passes6-7 : view size codesAt s ≡ ok v
+  pub here : o ≡ even pc - t .image - own .start
+  pub covers : o < s .span
+  pub small : pc < 2 ^ 32
+
+-- what they ask of the entry: a stack that passes 1, and in it SP, a multiple of 4, with n bytes below
+pub record Roomy (e : State) (n : ℕ) : Type 0 where
+  pub fit : fitStack (e .stack) ≡ true
+  pub aligned : e .regs .sp % 4 ≡ 0
+  pub high : e .regs .sp ≤ end (e .stack)
+  pub low : e .stack .base + n ≤ e .regs .sp
+
+-- the boundaries of a record's instructions: the offset, the place, and the codes that are left to undo
+pub data Boundary (own : Entry) (s : Shape) (v : View Code) : ℕ → Place → List Code → Type 0 where
+  prologue : (ahead undone : List Code) → codesOf v ≡ ahead ++ undone → total size undone < v .prologue → Boundary own s v (total size undone) Prologue undone
+  body : {o : ℕ} → v .prologue ≤ o → InNone o (v .exits) → Boundary own s v o Body (codesOf v)
+  epilogue :
+      {sc : Scope} {ex : Exit Code} (gone undone : List Code) → Of sc ex (s .scopes) (v .exits) → Fit own sc → ex .condition ≡ always
+      → ex .codes .list ≡ gone ++ undone
+      → total size gone < ex .size
+      → Boundary own s v (ex .start + total size gone) Epilogue undone
+
+-- more of a prologue's instructions run, from a state that those of `before` left
+pub data Went (before : List Code) (s : State) : List Code → State → Type 0 where
+  stays : Went before s [] s
+  goes : {cs : List Code} {t u : State} (c : Code) → Went before s cs t → Does (cs ++ before) (c .undo) t u → Went before s (c ∷ cs) u
+
+-- the rest of a prologue was run, and the body went to a pc
+pub record Begun (e mid : State) (cs more done : List Code) (pc : ℕ) : Type 0 where
+  pub start : State
+  pub past : Past cs e start
+  pub went : Went done mid more (past .left)
+  pub at : start .regs .pc ≡ pc
+  pub plain : Plain e → Plain start
+
+-- The conditions can be met at every boundary of every record whose codes are fine: from any registers, with room for the prologue
+abbrev pub Everywhere : Inputs → Entry → Shape → View Code → State → Type 0
+Everywhere t own s v e =
+    (o : ℕ) (p : Place) (undone : List Code)
+    → Boundary own s v o p undone
+    → At t own s v (e .regs .pc + o) o
+    → Fine (codesOf v)
+    → Roomy e (room (codesOf v))
+    → Reaches t e o p undone
+
+-- in the prologue: from any state that some of its instructions may have left, a later boundary
+abbrev pub Onward : Inputs → Entry → Shape → View Code → State → Type 0
+Onward t own s v e =
+    (mid : State) (ahead undone more done : List Code)
+    → At t own s v (mid .regs .pc + total size more) (total size undone)
+    → codesOf v ≡ ahead ++ undone
+    → undone ≡ more ++ done
+    → total size undone < v .prologue
+    → Fine undone
+    → Roomy e (room undone)
+    → Done e done mid
+    → (Plain e → Plain mid)
+    → (r : Reaches t e (total size undone) Prologue undone) × Went done mid more (r .now)
+
+-- and from any such state the body, at any pc
+abbrev pub Onset : State → Type 0
+Onset e =
+    (mid : State) (cs more done : List Code) (pc : ℕ)
+    → cs ≡ more ++ done
+    → Fine cs
+    → Roomy e (room cs)
+    → pc < 2 ^ 32
+    → Done e done mid
+    → (Plain e → Plain mid)
+    → Begun e mid cs more done pc
+
+-- in the body: any state that it may leave
+abbrev pub Used : Inputs → Entry → Shape → View Code → State → Type 0
+Used t own s v e =
+    (o : ℕ) (now : State)
+    → At t own s v (now .regs .pc) o
+    → v .prologue ≤ o
+    → InNone o (v .exits)
+    → Roomy e 0
+    → Past (codesOf v) e now
+    → (Plain e → Plain now)
+    → (r : Reaches t e o Body (codesOf v)) × (r .now ≡ now)
+
+-- in an epilogue: from any state that the body may leave, and some of the epilogue's instructions then, a later boundary
+abbrev pub Leaving : Inputs → Entry → Shape → View Code → State → Type 0
+Leaving t own s v e =
+    (sc : Scope) (ex : Exit Code) (start mid : State) (gone more undone : List Code)
+    → At t own s v (mid .regs .pc + total size more) (ex .start + total size (gone ++ more))
+    → Of sc ex (s .scopes) (v .exits)
+    → Fit own sc
+    → ex .condition ≡ always
+    → ex .codes .list ≡ (gone ++ more) ++ undone
+    → total size (gone ++ more) < ex .size
+    → Roomy e 0
+    → Past (codesOf v) e start
+    → Ran (RX (codesOf v)) gone start mid
+    → (Plain e → Plain mid)
+    → (r : Reaches t e (ex .start + total size (gone ++ more)) Epilogue undone) × Ran (RX (codesOf v)) more mid (r .now)
+
+pub record Met (t : Inputs) (own : Entry) (s : Shape) (v : View Code) (e : State) : Type 0 where
+  pub everywhere : Everywhere t own s v e
+  pub onward : Onward t own s v e
+  pub onset : Onset e
+  pub used : Used t own s v e
+  pub leaving : Leaving t own s v e
