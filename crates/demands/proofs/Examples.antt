@@ -1,18 +1,21 @@
 -- Document 01's examples, those marked P and those that stand beside them, proved of the definitions by computation.
 -- Assumes nothing.
-use Prim.Native.Nat.{ℕ, _+_, _*_, _^_}
-use mathlib.Core.Path.{_≡_, refl}
+use Prim.Native.Nat.{ℕ, zero, suc, _+_, _-_, _*_, _%_, _^_, _≤_, _<_}
+use mathlib.Core.Path.{_≡_, refl, sym, ap, _∙_}
 use mathlib.Core.List.{List, [], _∷_, _++_}
 use mathlib.Core.Bool.{Bool, true, false}
 use lib.ListN.{replicate}
-use Rattle.words.specs.Bits.{bits}
-use Rattle.words.specs.Lent.{Lent}
+use native.Mathlib.Omega.{arith}
+use borrow.Author.Tests.{eq-eqb, le-leb, lt-ltb}
+use Rattle.words.specs.Bits.{bit, even}
+use Rattle.words.specs.Lent.{Lent, end, wordAt}
 use Rattle.words.specs.Units.{halfwords, stackWords, codeBytes, stackBytes}
 use Rattle.words.specs.declared.Place.{Place}
 use Rattle.words.specs.declared.Place.the-variants.{Leaf, Prologue, Body, Epilogue}
 use Rattle.words.specs.declared.Refusal.the-variants.{InsideInstruction, BadStack}
 use Rattle.words.specs.declared.Verdict.the-variants.{Given, Refused}
-use Rattle.unwinding.specs.Answer.{Res, ok, refuse, _>>=_}
+use Rattle.unwinding.specs.Answer.{Res, ok, refuse, _>>=_, if_then_else_}
+use Rattle.unwinding.specs.CodeList.{run}
 use Rattle.unwinding.specs.Shape.{Shape}
 use Rattle.unwinding.specs.View.{view}
 use Rattle.unwinding.specs.Todo.{Todo, todo}
@@ -20,11 +23,14 @@ use Rattle.codes.specs.declared.Code.{Code}
 use Rattle.codes.specs.declared.Undo.the-variants.{Up, Pop, SpFrom}
 use Rattle.codes.specs.Code.{size, codesAt}
 use Rattle.machine.specs.declared.Regs.{Regs}
+use Rattle.machine.specs.Registers.{reg, setReg, setSp}
+use Rattle.machine.specs.Step.{stands, load, popReg, pop, step}
+use Rattle.tables.specs.Pdata.{find}
 use Rattle.tables.specs.Packed.{fields, amount, folded, PF, EF}
 use Rattle.tables.specs.PackedCodes.{writeCodes}
 use Rattle.tables.specs.Xdata.{xdataSize}
 use Rattle.tables.specs.Record.{packedShape, fullShape}
-use Rattle.frame.specs.Frame.{Inputs, frame, unwound}
+use Rattle.frame.specs.Frame.{Inputs, Caller, fitStack, returned, within, frame, unwound}
 use Rattle.walking.specs.Walk.{walk}
 use Rattle.walking.specs.declared.Stop.the-variants.{End}
 use Rattle.report.specs.Report.{report, mark}
@@ -33,6 +39,9 @@ use Rattle.text.specs.Text.{text}
 use Rattle.report.proofs.Opened.{opened}
 use Rattle.words.proofs.Bytes.{bytesOf}
 use Rattle.tables.proofs.At.{at, says}
+use Rattle.forward.specs.Met.{At}
+use Rattle.forward.proofs.Framed.{stack-end, passed}
+use Rattle.forward.proofs.Examples.{own, shape, views, known, framed}
 
 -- "Packed 0x00910041: push {r4,r5,lr}; sub sp,#8. Both lists 02 D5 FF. Length 32, epilogue at 0x1C."
 abbrev c02 : Code
@@ -173,13 +182,15 @@ pub packed-2-frame :
 unfolding opened
 packed-2-frame = refl
 
--- offset 8 of the full record: "all three, SP = r7 + 44", for every r7 that leaves the loads in the stack is a law; here r7 = 0x20004
+-- offset 8 of the full record, with all its registers, at r7 = 0x20004
 abbrev sevens : Regs
 sevens = record { r = replicate 7 0 ++ (0x20004 ∷ replicate 5 0); sp = 0x20000; lr = 0; pc = 0x00401008; d = replicate 32 0 }
 
+abbrev fullOn : Lent → Inputs
+fullOn k = record { image = 0x00400000; pdata = bytesOf (0x1000 ∷ 0x3000 ∷ []); xdata = xdata; stack = k }
+
 abbrev fullInputs : Inputs
-fullInputs =
-    record { image = 0x00400000; pdata = bytesOf (0x1000 ∷ 0x3000 ∷ []); xdata = xdata; stack = record { base = 0x20000; bytes = bytesOf (1 ∷ 4 ∷ 5 ∷ 6 ∷ 7 ∷ 8 ∷ 9 ∷ 0x401235 ∷ 0 ∷ 0 ∷ 0 ∷ 0 ∷ []) } }
+fullInputs = fullOn (record { base = 0x20000; bytes = bytesOf (1 ∷ 4 ∷ 5 ∷ 6 ∷ 7 ∷ 8 ∷ 9 ∷ 0x401235 ∷ 0 ∷ 0 ∷ 0 ∷ 0 ∷ []) })
 
 full-8-frame :
     frame fullInputs sevens
@@ -187,6 +198,103 @@ full-8-frame :
     (record { regs = record { r = 0 ∷ 0 ∷ 0 ∷ 0 ∷ 4 ∷ 5 ∷ 6 ∷ 7 ∷ 8 ∷ 9 ∷ 0 ∷ 0 ∷ 0 ∷ []; sp = 0x20004 + 44; lr = 0x401235; pc = 0x401234; d = replicate 32 0 }; place = Body; handler = 0; codes = 3 })
 unfolding opened
 full-8-frame = refl
+
+-- "all three, SP = r7 + 44", of every r7: a multiple of 4 from which the loads stay in a stack that passes 1, in which the given SP stands,
+-- not above the caller's
+pub record Sevens (k : Lent) (g : Regs) : Type 0 where
+  pub fit : fitStack k ≡ true
+  pub pc : g .pc ≡ 0x00401008
+  pub aligned : reg g 7 % 4 ≡ 0
+  pub low : k .base ≤ reg g 7
+  pub high : reg g 7 + 44 ≤ end k
+  pub spAligned : g .sp % 4 ≡ 0
+  pub spLow : k .base ≤ g .sp
+  pub spHigh : g .sp ≤ reg g 7 + 44
+
+-- it answers, and SP moves up by n
+record Moves (act : Regs → Res Regs) (g : Regs) (n : ℕ) : Type 0 where
+  next : Regs
+  runs : act g ≡ ok next
+  sp : next .sp ≡ g .sp + n
+
+module _ (k : Lent) (fit : fitStack k ≡ true) where
+  standing : (a : ℕ) → a % 4 ≡ 0 → k .base ≤ a → a ≤ end k → stands k a ≡ true
+  standing a h low high =
+      let q : a < 2 ^ 32 = omega (arith, stack-end k fit) in
+      rw (eq-eqb (a % 4) 0 h, le-leb _ _ low, le-leb _ _ high, lt-ltb _ _ q) refl
+
+  -- the registers of a list with numbers below n
+  count : (l n : ℕ) → ℕ
+  count l zero = 0
+  count l (suc n) = count l n + (if bit n l then 1 else 0)
+
+  moves-one : (t : Bool) (x : ℕ) (g : Regs) → k .base ≤ g .sp → g .sp + 4 * (if t then 1 else 0) ≤ end k → Moves (λ h. if t then popReg k x h else ok h) g (4 * (if t then 1 else 0))
+  unfolding load popReg
+  moves-one true x g b h =
+      record { next = setSp (setReg g x (wordAt k (g .sp))) (g .sp + 4); runs = rw (le-leb (k .base) (g .sp) b, le-leb (g .sp + 4) (end k) h) refl; sp = refl }
+  moves-one false x g b h = record { next = g; runs = refl; sp = omega arith }
+
+  moves-pop : (l n : ℕ) (g : Regs) → k .base ≤ g .sp → g .sp + 4 * count l n ≤ end k → Moves (λ h. pop k l n h) g (4 * count l n)
+  unfolding pop count
+  moves-pop l zero g b h = record { next = g; runs = refl; sp = omega arith }
+  moves-pop l (suc n) g b h =
+      let i = moves-pop l n g b (omega arith) in
+      let j = moves-one (bit n l) n (i .next) (omega (arith, i .sp)) (omega (arith, i .sp)) in
+      record {
+        next = j .next;
+        runs = ap (λ x. x >>= λ h. if bit n l then popReg k n h else ok h) (i .runs) ∙ j .runs;
+        sp = omega (arith, i .sp, j .sp);
+      }
+
+  -- C7 DD 04
+  moves-all : (g : Regs) → reg g 7 % 4 ≡ 0 → k .base ≤ reg g 7 → reg g 7 + 44 ≤ end k → (h : Regs) × (run (step k) (cC7 ∷ cDD ∷ c04 ∷ []) g ≡ ok h) × (h .sp ≡ reg g 7 + 44)
+  unfolding run step count
+  moves-all g al low high =
+      let a : ℕ = reg g 7 in
+      let i = moves-pop (0x3F0 + 2 ^ 14) 15 (setSp g a) low (omega arith) in
+      let p : i .next .sp ≡ a + 28 = i .sp in
+      let last : i .next .sp + 16 ≡ a + 44 = omega arith in (
+        setSp (i .next) (i .next .sp + 16),
+        rw (standing a al low (omega arith), i .runs, standing (i .next .sp) (omega arith) (omega arith) (omega arith), standing (i .next .sp + 16) (omega arith) (omega arith) (omega arith)) refl,
+        last,
+      )
+
+-- what the record says there
+all-three : todo size (views framed) 8 ≡ says Body (cC7 ∷ cDD ∷ c04 ∷ [])
+unfolding opened
+all-three = refl
+
+full-8-here : At (fullOn (record { base = 0; bytes = [] })) (own framed) (shape framed) (views framed) 0x00401008 8
+unfolding opened
+full-8-here = known framed 8 refl (omega arith)
+
+full-8-within : (k : Lent) (g : Regs) → Sevens k g → (c : Caller) × (within k (shape framed) 8 g ≡ ok c) × (c .place ≡ Body) × (c .codes ≡ 3) × (c .regs .sp ≡ reg g 7 + 44)
+unfolding within
+full-8-within k g s =
+    let m = moves-all k (s .fit) g (s .aligned) (s .low) (s .high) in
+    let up : g .sp ≤ m .0 .sp = omega (arith, s .spHigh, m .2) in (
+      record { regs = returned (m .0); place = Body; handler = shape framed .handler; codes = 3 },
+      rw (full-8-here .passes6-7, all-three, m .1, le-leb _ _ up) refl,
+      refl,
+      refl,
+      m .2,
+    )
+
+pub full-8-law : (k : Lent) (g : Regs) → Sevens k g → (c : Caller) × (frame (fullOn k) g ≡ ok c) × (c .place ≡ Body) × (c .codes ≡ 3) × (c .regs .sp ≡ reg g 7 + 44)
+full-8-law k g s =
+    let w = full-8-within k g s in
+    let at = full-8-here in (
+      w .0,
+      passed (fullOn k) k g (own framed) (shape framed) 8 (w .0) (s .fit) (at .passes1) (ap (find 0x00400000 (fullOn k .pdata)) (s .pc) ∙ at .found)
+          (standing k (s .fit) (g .sp) (s .spAligned) (s .spLow) (omega (arith, s .spHigh, s .high)))
+          (at .passes4-5)
+          (at .here ∙ ap (λ x. even x - 0x00400000 - 0x1000) (sym (s .pc)))
+          (at .covers)
+          (w .1),
+      w .2,
+      w .3,
+      w .4,
+    )
 
 -- "Loading the last word: SP = end is right; one word more: 8", and the registers come back as given
 abbrev short : ℕ → Inputs

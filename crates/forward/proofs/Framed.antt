@@ -130,7 +130,7 @@ fit-second t r s v h y sc ex m (packed z d) = packed-list (r .word) s v sc ex (r
 pub fit-like : (k k′ : Lent) → k′ .base ≡ k .base → length (k′ .bytes) ≡ length (k .bytes) → fitStack k′ ≡ fitStack k
 fit-like k k′ p q = rw (p, q) refl
 
-stack-end : (k : Lent) → fitStack k ≡ true → end k < 2 ^ 32
+pub stack-end : (k : Lent) → fitStack k ≡ true → end k < 2 ^ 32
 stack-end k h =
     let a = both (eqb (k .base % 4) 0 && eqb (length (k .bytes) % 4) 0) (leb (end k) (2 ^ 32 - 4)) h in
     omega (arith, leb-true (end k) (2 ^ 32 - 4) (a .1))
@@ -144,7 +144,7 @@ stands-like k k′ top a p q h m n =
     rw (eq-eqb (a % 4) 0 (n .even), le-leb _ _ l, le-leb _ _ u, lt-ltb _ _ r) refl
 
 -- a frame whose tests pass is its record's answer
-passed :
+pub passed :
     (t : Inputs) (k : Lent) (g : Regs) (e : Entry) (s : Shape) (o : ℕ) (c : Caller) → fitStack k ≡ true → fitXdata (t .xdata) ≡ true
     → find (t .image) (t .pdata) (g .pc) ≡ ok (some e)
     → stands k (g .sp) ≡ true
