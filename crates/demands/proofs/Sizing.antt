@@ -5,14 +5,12 @@ use mathlib.Core.Path.{_≡_, refl, sym, ap, _∙_}
 use mathlib.Core.Logic.{_≢_}
 use mathlib.Core.List.{[], _∷_}
 use mathlib.Core.Bool.{Bool, true, false}
-use lib.Dec.{leb, eqb}
+use lib.Dec.{eqb}
 use native.Mathlib.Omega.{arith}
-use borrow.Author.Tests.{leb-true}
 use Rattle.words.specs.Bits.{bits, bit}
-use Rattle.words.specs.Lent.{Lent, end, holds, wordAt}
+use Rattle.words.specs.Lent.{Lent, holds, wordAt}
 use Rattle.words.specs.declared.Refusal.the-variants.{UnfitInput, Reserved, OutsideXdata}
 use Rattle.words.specs.declared.Verdict.the-variants.{Given}
-use Rattle.words.proofs.Laws.{both}
 use Rattle.words.proofs.Bytes.{bytesOf}
 use Rattle.unwinding.specs.Answer.{Res, ok, refuse, verdict, if_then_else_}
 use Rattle.tables.specs.Xdata.{fitXdata, recordBytes, shortHead, longHead, headAt, xdataSize, sizeAnswer, wholeRecord}
@@ -23,6 +21,7 @@ use Rattle.report.proofs.Opened.{opened}
 use Rattle.demands.specs.Reader.{ours}
 use Rattle.demands.specs.SizeLaws.{wordCount, SizeLaws}
 use Rattle.demands.specs.Shams.{resized, handlerless}
+use Rattle.demands.proofs.Wider.{inside}
 
 -- ---- a head's record in words
 by-words : (n s k : ℕ) (t : Bool) → 4 * n + 4 * s + 4 * k + (if t then 4 else 0) ≡ 4 * (n + s + k + (if t then 1 else 0))
@@ -73,14 +72,11 @@ size-is : (r : Res ℕ) → verdict r ≡ Given → r ≡ ok (sizeAnswer r .byte
 size-is (ok n) v = refl
 size-is (refuse y) v = absurd (let z : _≡_ {A = ℕ} 0 1 = cc in omega arith)
 
-within : (x : Lent) (a n : ℕ) → holds x a n ≡ true → (x .base ≤ a) × (a + n ≤ end x)
-within x a n h = let p = both (leb (x .base) a) (leb (a + n) (end x)) h in (leb-true _ _ (p .0), leb-true _ _ (p .1))
-
 pub size-laws : SizeLaws ours
 size-laws = record {
   counted = λ x at v. let h = size-head x at _ (size-is (xdataSize x at) v) in sym (h .2) ∙ head-words x (at - at % 4) (h .0) (h .1);
   inside = λ x at v. let h = size-head x at _ (size-is (xdataSize x at) v) in
-      rw (h .2) at (within x (at - at % 4) (recordBytes (h .0)) (head-small x (at - at % 4) (h .0) (h .1) .lent));
+      rw (h .2) at (inside x (at - at % 4) (recordBytes (h .0)) (head-small x (at - at % 4) (h .0) (h .1) .lent));
 }
 
 -- ---- any other number of bytes, wherever a size is given

@@ -43,6 +43,10 @@ use Rattle.frame.specs.Frame.{Inputs, Caller, fitStack, uncovered, within, byRe
 use Rattle.demands.specs.Demand1.{More, Wider, ofExtent}
 use Rattle.demands.proofs.Staying.{Stays, stays-given, stays-bind, stays-need, stays-test, stays-run}
 
+-- bytes that are lent lie between the ends
+pub inside : (l : Lent) (a n : ℕ) → holds l a n ≡ true → (l .base ≤ a) × (a + n ≤ end l)
+inside l a n h = let p = both (leb (l .base) a) (leb (a + n) (end l)) h in (leb-true _ _ (p .0), leb-true _ _ (p .1))
+
 -- ---- bytes that are lent are lent in more
 module _ (l l′ : Lent) (m : More l l′) where
   long : length (l′ .bytes) ≡ length (m .before) + (length (l .bytes) + length (m .after))
@@ -82,12 +86,9 @@ module _ (l l′ : Lent) (m : More l l′) where
       ∙ ap (take n) (drop-append-le o (l .bytes) (m .after) (omega arith))
       ∙ take-append-le n (drop o (l .bytes)) (m .after) w
 
-  pub inside : (a n : ℕ) → holds l a n ≡ true → (l .base ≤ a) × (a + n ≤ end l)
-  inside a n h = let p = both (leb (l .base) a) (leb (a + n) (end l)) h in (leb-true _ _ (p .0), leb-true _ _ (p .1))
-
   pub more-holds : (a n : ℕ) → holds l a n ≡ true → holds l′ a n ≡ true
   more-holds a n h =
-      let p = inside a n h in
+      let p = inside l a n h in
       let lo : l′ .base ≤ a = omega (arith, p .0, more-low) in
       let hi : a + n ≤ end l′ = omega (arith, p .1, more-high) in
       rw (le-leb _ _ lo, le-leb _ _ hi) refl
@@ -107,7 +108,7 @@ module _ (k k′ : Lent) (m : More k k′) where
   unfolding load
   stays-load a =
       stays-need (holds k a 4) (holds k′ a 4) BadStack (ok (wordAt k a)) (ok (wordAt k′ a)) refl (more-holds k k′ m a 4)
-      (λ h q. let p = inside k k′ m a 4 h in ap ok (more-word k k′ m a (p .0) (p .1)))
+      (λ h q. let p = inside k a 4 h in ap ok (more-word k k′ m a (p .0) (p .1)))
 
   stays-popReg : (x : ℕ) (g : Regs) → Stays (popReg k x g) (popReg k′ x g)
   unfolding popReg
@@ -161,7 +162,7 @@ module _ (x x′ : Lent) (m : More x x′) where
   unfolding longHead
   stays-long a w =
       stays-need (holds x a 8) (holds x′ a 8) OutsideXdata _ _ refl (more-holds x x′ m a 8)
-      (λ h. let p = inside x x′ m a 8 h in
+      (λ h. let p = inside x a 8 h in
       let e : wordAt x′ (a + 4) ≡ wordAt x (a + 4) = more-word x x′ m (a + 4) (omega (arith, p .0)) (omega (arith, p .1)) in
       rw e (λ q. refl))
 
@@ -173,7 +174,7 @@ module _ (x x′ : Lent) (m : More x x′) where
   unfolding headAt
   stays-head a =
       stays-need (holds x a 4) (holds x′ a 4) OutsideXdata _ _ refl (more-holds x x′ m a 4)
-      (λ h. let p = inside x x′ m a 4 h in
+      (λ h. let p = inside x a 4 h in
       let e : wordAt x′ a ≡ wordAt x a = more-word x x′ m a (p .0) (p .1) in
       rw e
       (stays-test (eqb (bits 18 2 (wordAt x a)) 0) Reserved _ _
@@ -208,7 +209,7 @@ module _ (x x′ : Lent) (m : More x x′) where
   unfolding fullShape
   stays-full a =
       stays-bind (headAt x a) (headAt x′ a) _ _ (stays-head a)
-      (λ h p. let w = inside x x′ m a (recordBytes h) (head-small x a h p .lent) in
+      (λ h p. let w = inside x a (recordBytes h) (head-small x a h p .lent) in
       let s = same-scopes (scopeCount h) (a + h .bytes) (omega (arith, w .0)) (omega (arith, w .1)) in
       stays-bind (scopesAt x (a + h .bytes) (scopeCount h)) (scopesAt x′ (a + h .bytes) (scopeCount h)) _ _ (λ e. s)
       (λ l q e. ap ok (same-full a h l (w .0) (w .1))))
