@@ -6,8 +6,9 @@ use mathlib.Core.Path.{_≡_, refl, sym, ap, ap₂, _∙_, subst}
 use mathlib.Core.Bool.{Bool, true, false}
 use mathlib.Core.List.{List, [], _∷_}
 use mathlib.Core.Logic.{_≢_, inl, inr}
-use lib.Dec.{ltb}
+use lib.Dec.{ltb, eqb}
 use native.Mathlib.Omega.{arith}
+use borrow.Author.Tests.{ltb-true, eqb-false}
 use Rattle.words.specs.Lent.{Lent, end, wordAt}
 use Rattle.words.specs.declared.Place.the-variants.{Prologue, Body, Epilogue}
 use mathlib.Core.Option.{some}
@@ -33,10 +34,10 @@ use Rattle.forward.specs.Body as Kept
 use Rattle.forward.specs.Epilogue.{Ran}
 use Rattle.forward.specs.Epilogue as Leaving
 use Rattle.forward.specs.Exits.{here, full, packed}
-use Rattle.forward.specs.Stop.{Past}
+use Rattle.forward.specs.Stop.{codesOf, Past}
 use Rattle.forward.specs.Demand.{lending, Asked, Demand3}
 use Rattle.forward.specs.Met.{Plain, Reaches, At, Went, stays}
-use Rattle.forward.proofs.Ops.{upd-cases}
+use Rattle.forward.proofs.Ops.{upd, upd-cases}
 use Rattle.forward.proofs.Steps.{done-fits}
 use Rattle.forward.proofs.Memory.{outside-above, outside-below, outside-same, outside-then, outside-more}
 use Rattle.forward.proofs.Writing.{whole-reg, value-reg}
@@ -45,7 +46,8 @@ use Rattle.forward.proofs.Storing.{store, store-outside, word-store}
 use Rattle.forward.proofs.Real.{Solid, set-real, set-sp-real, store-real}
 use Rattle.forward.proofs.Executing.{standing, done-place, after, after-solid}
 use Rattle.forward.proofs.Reaching.{words-same, idle, solid-of, plain-of, stood, less-room, met}
-use Rattle.forward.proofs.Examples.{Tables, inputs, own, shape, views, known, Entered, in-onward, in-used, in-leaving, prologue-run, code, up2, up4, nop, pop45lr, pop4511lr, pop4to9lr, spR7, rx7, plain, homes, chain, framed, handles}
+use Rattle.forward.proofs.Examples.{Tables, inputs, own, shape, views, known, Entered, in-onward, in-used, in-leaving, prologue-run}
+use Rattle.forward.proofs.Examples.{code, up2, up4, nop, pop45lr, pop4511lr, pop4to9lr, spR7, rx7, plain, homes, chain, framed, handles}
 
 -- ---- a register written
 abbrev writes : (x v : ℕ) → State → State
@@ -53,15 +55,19 @@ writes x v s =
     let w : Whole (setReg (s .regs) x v) = whole-reg x v (s .whole) in
     record { regs = setReg (s .regs) x v; stack = s .stack; whole = record { r = w .r; d = w .d } }
 
-writes-same : (x v : ℕ) (s : State) (y : ℕ) → x < 15 → x ≢ 13 → y ≢ x → value (setReg (s .regs) x v) y ≡ value (s .regs) y
-writes-same x v s y l n q =
-    ap (λ f. f y) (value-reg (s .regs) x v (s .whole) l n)
-    ∙ upd-cases (λ z. z ≡ value (s .regs) y) (value (s .regs)) x v y (λ p. absurd (q p)) (λ p. refl)
+-- r0-r12 or LR
+abbrev Integer : ℕ → Type 0
+Integer x = (ltb x 15 ≡ true) × (eqb x 13 ≡ false)
 
-writes-it : (x v : ℕ) (s : State) → x < 15 → x ≢ 13 → value (setReg (s .regs) x v) x ≡ v
-writes-it x v s l n =
-    ap (λ f. f x) (value-reg (s .regs) x v (s .whole) l n)
-    ∙ upd-cases (λ z. z ≡ v) (value (s .regs)) x v x (λ p. refl) (λ p. absurd (p refl))
+written : (x v : ℕ) (s : State) → Integer x → value (setReg (s .regs) x v) ≡ upd (value (s .regs)) x v
+written x v s i = value-reg (s .regs) x v (s .whole) (ltb-true x 15 (i .0)) (eqb-false x 13 (i .1))
+
+writes-same : (x v : ℕ) (s : State) (y : ℕ) → Integer x → y ≢ x → value (setReg (s .regs) x v) y ≡ value (s .regs) y
+writes-same x v s y i q =
+    ap (λ f. f y) (written x v s i) ∙ upd-cases (λ z. z ≡ value (s .regs) y) (value (s .regs)) x v y (λ p. absurd (q p)) (λ p. refl)
+
+writes-it : (x v : ℕ) (s : State) → Integer x → value (setReg (s .regs) x v) x ≡ v
+writes-it x v s i = ap (λ f. f x) (written x v s i) ∙ upd-cases (λ z. z ≡ v) (value (s .regs)) x v x (λ p. refl) (λ p. absurd (p refl))
 
 -- ---- SP lowered
 abbrev lowered : ℕ → State → State
@@ -145,34 +151,16 @@ Has v s = (value (s .regs) 4 ≡ v .r₄) × (value (s .regs) 5 ≡ v .r₅) × 
 abbrev overwrites : Values → State → State
 overwrites v s = puts (v .w₀) (v .w₁) (writes 14 (v .lr) (writes 5 (v .r₅) (writes 4 (v .r₄) s)))
 
--- 4, 5 and 14 are apart, and none is 13
-n4 : _≢_ {A = ℕ} 4 13
-n4 q = omega arith
-
-n5 : _≢_ {A = ℕ} 5 13
-n5 q = omega arith
-
-n14 : _≢_ {A = ℕ} 14 13
-n14 q = omega arith
-
-n45 : _≢_ {A = ℕ} 4 5
-n45 q = omega arith
-
-n414 : _≢_ {A = ℕ} 4 14
-n414 q = omega arith
-
-n514 : _≢_ {A = ℕ} 5 14
-n514 q = omega arith
-
 has : (v : Values) (s : State) (pc : ℕ) → s .stack .base ≤ s .regs .sp → s .regs .sp + 8 ≤ end (s .stack) → Has v (standing pc (overwrites v s))
 has v s pc b h =
     let s₁ : State = writes 4 (v .r₄) s in
     let s₂ : State = writes 5 (v .r₅) s₁ in
     let s₃ : State = writes 14 (v .lr) s₂ in
     let p = put (v .w₀) (v .w₁) s₃ b h in (
-      writes-same 14 (v .lr) s₂ 4 (omega arith) n14 n414 ∙ writes-same 5 (v .r₅) s₁ 4 (omega arith) n5 n45 ∙ writes-it 4 (v .r₄) s (omega arith) n4,
-      writes-same 14 (v .lr) s₂ 5 (omega arith) n14 n514 ∙ writes-it 5 (v .r₅) s₁ (omega arith) n5,
-      writes-it 14 (v .lr) s₂ (omega arith) n14,
+      writes-same 14 (v .lr) s₂ 4 (refl, refl) (eqb-false 4 14 refl)
+      ∙ writes-same 5 (v .r₅) s₁ 4 (refl, refl) (eqb-false 4 5 refl) ∙ writes-it 4 (v .r₄) s (refl, refl),
+      writes-same 14 (v .lr) s₂ 5 (refl, refl) (eqb-false 5 14 refl) ∙ writes-it 5 (v .r₅) s₁ (refl, refl),
+      writes-it 14 (v .lr) s₂ (refl, refl),
       p .held,
     )
 
@@ -189,9 +177,9 @@ overwritten v s pc b h =
       sp = refl;
       rX = λ x q. absurd (no-rX x q);
       unsaved = λ x l n.
-          writes-same 14 (v .lr) s₂ x (omega arith) n14 (λ q. n (inr (inl (inr (inr (inl q))))))
-          ∙ writes-same 5 (v .r₅) s₁ x (omega arith) n5 (λ q. n (inr (inl (inr (inl q)))))
-          ∙ writes-same 4 (v .r₄) s x (omega arith) n4 (λ q. n (inr (inl (inl q))));
+          writes-same 14 (v .lr) s₂ x (refl, refl) (λ q. n (inr (inl (inr (inr (inl q))))))
+          ∙ writes-same 5 (v .r₅) s₁ x (refl, refl) (λ q. n (inr (inl (inr (inl q)))))
+          ∙ writes-same 4 (v .r₄) s x (refl, refl) (λ q. n (inr (inl (inl q))));
     }
 
 overwritten-plain : (v : Values) (e : State) (pc : ℕ) → Small v → pc < 2 ^ 32 → Plain e → Plain (standing pc (overwrites v (after cs e)))
@@ -218,17 +206,21 @@ plain-6-used e v m h =
     (overwritten-plain v e 0x00401006 m (omega arith)) in
     (r .0, subst (Has v) (sym (r .1)) (p .1))
 
+-- a boundary of an epilogue, reached by these instructions from a state
+abbrev pub From : Tables → (e start : State) → ℕ → (more undone : List Code) → Type 0
+From k e start o more undone = (r : Reaches (inputs k) e o Epilogue undone) × Ran (RX (codesOf (views k))) more start (r .now)
+
 -- and its epilogue
 pub plain-1E-used :
     (e : State) (v : Values) → Small v → Entered e
-    → (start : State) × Has v start × (r : Reaches (inputs plain) e 0x1E Epilogue (pop45lr ∷ [])) × Ran (RX cs) (up2 ∷ []) start (r .now)
+    → (start : State) × Has v start × From plain e start 0x1E (up2 ∷ []) (pop45lr ∷ [])
 unfolding opened
 plain-1E-used e v m h =
     let p = overwritten-past v e h 0x0040101C in
     let start : State = standing 0x0040101C (overwrites v (after cs e)) in
     let r = in-leaving plain e h start start [] (up2 ∷ []) (pop45lr ∷ []) refl here (packed (λ q. omega arith) (λ d. refl)) refl refl (omega arith) (p .0)
     Leaving.none refl (overwritten-plain v e 0x0040101C m (omega arith)) in
-    (start, p .1, r .0, r .1)
+    (start, p .1, r)
 
 -- ---- a sub that writes the words it gains
 pub plain-4-wrote : (e : State) (w₀ w₁ : ℕ) → w₀ < 2 ^ 32 → w₁ < 2 ^ 32 → Entered e → (r : Reaches (inputs plain) e 4 Body cs) × AtSp w₀ w₁ (r .now)
@@ -265,25 +257,26 @@ homes-4-from e mid h d z w =
 went-none : {before : List Code} {s t : State} → Went before s [] t → t ≡ s
 went-none stays = refl
 
-pub chain-8-set : (e : State) (v : ℕ) → v < 2 ^ 32 → Entered e → (r : Reaches (inputs chain) e 8 Prologue (nop ∷ pop4511lr ∷ [])) × (value (r .now .regs) 11 ≡ v)
+pub chain-8-set :
+    (e : State) (v : ℕ) → v < 2 ^ 32 → Entered e
+    → (r : Reaches (inputs chain) e 8 Prologue (nop ∷ pop4511lr ∷ [])) × (value (r .now .regs) 11 ≡ v)
 unfolding opened
 chain-8-set e v b h =
     let s : State = after (pop4511lr ∷ []) e in
     let mid : State = standing 0x00401008 (writes 11 v s) in
-    let n : _≢_ {A = ℕ} 11 13 = λ q. omega arith in
     let d = prologue-run chain e h (pop4511lr ∷ []) (tt, tt) (omega arith) in
     let r = in-onward chain e h mid (up2 ∷ []) [] (nop ∷ pop4511lr ∷ []) refl refl (tt, (tt, tt)) (omega arith)
     (next nop d (record {
       stack = refl;
       sp = refl;
       rX = λ x q. absurd (no x q);
-      unsaved = λ x l z. writes-same 11 v s x (omega arith) n (λ q. z (inl (inr (inr (inl q)))));
+      unsaved = λ x l z. writes-same 11 v s x (refl, refl) (λ q. z (inl (inr (inr (inl q)))));
     }))
     refl
     (λ w.
     let y = after-solid e (pop4511lr ∷ []) (solid-of w) in
     plain-of (stood 0x00401008 (record { real = set-real 11 v (y .real) b; bytes = y .bytes; sp = y .sp })) (omega arith)) in
-    (r .0, subst (λ (t : State). value (t .regs) 11 ≡ v) (sym (went-none (r .1))) (writes-it 11 v s (omega arith) n))
+    (r .0, subst (λ (t : State). value (t .regs) 11 ≡ v) (sym (went-none (r .1))) (writes-it 11 v s (refl, refl)))
   where
     no : (x : ℕ) → RX (pop4511lr ∷ []) x → ⊥
     no x (inl q) = q
@@ -306,18 +299,17 @@ idles-1A-set e v b h =
     let left : State = after list e in
     let start : State = standing 0x00401018 left in
     let mid : State = standing 0x0040101A (writes 12 v start) in
-    let n : _≢_ {A = ℕ} 12 13 = λ q. omega arith in
     let d = prologue-run idles e h list (tt, (tt, (tt, tt))) (omega arith) in
     let p = done-place d in
     let low : left .stack .base ≤ left .regs .sp = omega (arith, p .sp, p .base, h .roomy .low) in
     let r = in-leaving idles e h start mid (nop1 ∷ []) [] cs refl here (full refl refl) refl refl (omega arith)
     (record { left = left; done = d; stays = low; keeps = idle list left 0x00401018 (done-fits d (h .roomy .aligned) .1) low })
-    (Leaving.next nop1 (record { sp = refl; rest = λ x z. writes-same 12 v start x (omega arith) n (λ q. z (inr q, λ i. no x i)); stack = refl }) Leaving.none)
+    (Leaving.next nop1 (record { sp = refl; rest = λ x z. writes-same 12 v start x (refl, refl) (λ q. z (inr q, λ i. no x i)); stack = refl }) Leaving.none)
     refl
     (λ w.
     let y = after-solid e list (solid-of w) in
     plain-of (stood 0x0040101A (record { real = set-real 12 v (stood 0x00401018 y .real) b; bytes = y .bytes; sp = y .sp })) (omega arith)) in
-    (r .0, subst (λ (t : State). value (t .regs) 12 ≡ v) (sym (ran-none (r .1))) (writes-it 12 v start (omega arith) n))
+    (r .0, subst (λ (t : State). value (t .regs) 12 ≡ v) (sym (ran-none (r .1))) (writes-it 12 v start (refl, refl)))
   where
     no : (x : ℕ) → RX (nop1 ∷ cs) x → ⊥
     no x (inl q) = q
@@ -368,13 +360,13 @@ framed-A-moved e h =
 
 pub framed-142-moved :
     (e : State) → Entered e
-    → (start : State) × (start .regs .sp + 60 ≡ e .regs .sp) × (r : Reaches (inputs framed) e 0x142 Epilogue (pop4to9lr ∷ up4 ∷ [])) × Ran (RX moving) (spR7 ∷ []) start (r .now)
+    → (start : State) × (start .regs .sp + 60 ≡ e .regs .sp) × From framed e start 0x142 (spR7 ∷ []) (pop4to9lr ∷ up4 ∷ [])
 unfolding opened
 framed-142-moved e h =
     let p = moved-past e h 0x00401140 in
     let r = in-leaving framed e h (moved 0x00401140 e) (moved 0x00401140 e) [] (spR7 ∷ []) (pop4to9lr ∷ up4 ∷ []) refl here (full refl refl) refl refl (omega arith) (p .0)
     Leaving.none refl (moved-plain e 0x00401140 (omega arith)) in
-    (moved 0x00401140 e, p .1, r .0, r .1)
+    (moved 0x00401140 e, p .1, r)
 
 -- ---- the answer has the handler's RVA: demand 3 at a record with X=1
 -- the record is the tables' one
@@ -388,7 +380,9 @@ shape-at {t} {own} {s} e now h a z =
     let r : ok (a .shape) ≡ ok s = sym (a .passes4-5) ∙ ap (shapeOf (t .xdata)) q ∙ h .passes4-5 in
     cc
 
-pub handles-4-handler : (e : State) → Entered e → (r : Reaches (inputs handles) e 4 Body cs) × (answer (lending (inputs handles) (r .now .stack)) (r .now .regs) .handler ≡ 0x5678)
+pub handles-4-handler :
+    (e : State) → Entered e
+    → (r : Reaches (inputs handles) e 4 Body cs) × (answer (lending (inputs handles) (r .now .stack)) (r .now .regs) .handler ≡ 0x5678)
 unfolding opened Demand3
 handles-4-handler e h =
     let at : At (inputs handles) (own handles) (shape handles) (views handles) 0x00401004 4 = known handles 4 refl (omega arith) in

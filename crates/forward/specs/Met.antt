@@ -97,7 +97,9 @@ pub record Roomy (e : State) (n : ℕ) : Type 0 where
 
 -- the boundaries of a record's instructions: the offset, the place, and the codes that are left to undo
 pub data Boundary (own : Entry) (s : Shape) (v : View Code) : ℕ → Place → List Code → Type 0 where
-  prologue : (ahead undone : List Code) → codesOf v ≡ ahead ++ undone → total size undone < v .prologue → Boundary own s v (total size undone) Prologue undone
+  prologue :
+      (ahead undone : List Code) → codesOf v ≡ ahead ++ undone → total size undone < v .prologue
+      → Boundary own s v (total size undone) Prologue undone
   body : {o : ℕ} → v .prologue ≤ o → InNone o (v .exits) → Boundary own s v o Body (codesOf v)
   epilogue :
       {sc : Scope} {ex : Exit Code} (gone undone : List Code) → Of sc ex (s .scopes) (v .exits) → Fit own sc → ex .condition ≡ always
