@@ -275,23 +275,25 @@ full-8-within : (k : Lent) (g : Regs) → Sevens k g → (c : Caller) × (within
 unfolding within
 full-8-within k g s =
     let m = moves-all k (s .fit) g (s .aligned) (s .low) (s .high) in
-    let up : g .sp ≤ m .0 .sp = omega (arith, s .spHigh, m .2) in
-    (record { regs = returned (m .0); place = Body; handler = shape framed .handler; codes = 3 },
-    rw (full-8-here .passes6-7, all-three, m .1, le-leb _ _ up) refl,
-    (refl, refl, m .2))
+    let up : g .sp ≤ m .0 .sp = omega (arith, s .spHigh, m .2) in (
+      record { regs = returned (m .0); place = Body; handler = shape framed .handler; codes = 3 },
+      rw (full-8-here .passes6-7, all-three, m .1, le-leb _ _ up) refl,
+      (refl, refl, m .2),
+    )
 
 pub full-8-law : (k : Lent) (g : Regs) → Sevens k g → (c : Caller) × (frame (fullOn k) g ≡ ok c) × AllThree g c
 full-8-law k g s =
     let w = full-8-within k g s in
-    let at = full-8-here in
-    (w .0,
-    passed (fullOn k) k g (own framed) (shape framed) 8 (w .0) (s .fit) (at .passes1) (ap (find 0x00400000 (fullOn k .pdata)) (s .pc) ∙ at .found)
-    (standing k (s .fit) (g .sp) (s .spAligned) (s .spLow) (omega (arith, s .spHigh, s .high)))
-    (at .passes4-5)
-    (at .here ∙ ap (λ x. even x - 0x00400000 - 0x1000) (sym (s .pc)))
-    (at .covers)
-    (w .1),
-    w .2)
+    let at = full-8-here in (
+      w .0,
+      passed (fullOn k) k g (own framed) (shape framed) 8 (w .0) (s .fit) (at .passes1) (ap (find 0x00400000 (fullOn k .pdata)) (s .pc) ∙ at .found)
+          (standing k (s .fit) (g .sp) (s .spAligned) (s .spLow) (omega (arith, s .spHigh, s .high)))
+          (at .passes4-5)
+          (at .here ∙ ap (λ x. even x - 0x00400000 - 0x1000) (sym (s .pc)))
+          (at .covers)
+          (w .1),
+      w .2,
+    )
 
 -- "Loading the last word: SP = end is right; one word more: 8", and the registers come back as given
 abbrev short : ℕ → Inputs

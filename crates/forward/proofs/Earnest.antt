@@ -158,7 +158,7 @@ has v s pc b h =
     let s₃ : State = writes 14 (v .lr) s₂ in
     let p = put (v .w₀) (v .w₁) s₃ b h in (
       writes-same 14 (v .lr) s₂ 4 (refl, refl) (eqb-false 4 14 refl)
-      ∙ writes-same 5 (v .r₅) s₁ 4 (refl, refl) (eqb-false 4 5 refl) ∙ writes-it 4 (v .r₄) s (refl, refl),
+          ∙ writes-same 5 (v .r₅) s₁ 4 (refl, refl) (eqb-false 4 5 refl) ∙ writes-it 4 (v .r₄) s (refl, refl),
       writes-same 14 (v .lr) s₂ 5 (refl, refl) (eqb-false 5 14 refl) ∙ writes-it 5 (v .r₅) s₁ (refl, refl),
       writes-it 14 (v .lr) s₂ (refl, refl),
       p .held,
