@@ -2,17 +2,7 @@
 // nothing proved. As `walk_many` does, it reads reports one after the other, each preceded by its length (32 bits, little-endian), and
 // follows each listing by an empty line.
 
-// The toolchain that builds the proved programs has no C headers, so what is used of the C library is declared here.
-typedef unsigned char u8;
-typedef unsigned u32;
-typedef unsigned long long u64;
-typedef unsigned long size;
-typedef struct _IO_FILE FILE;
-extern FILE *stdin, *stdout;
-size fread(void *, size, size, FILE *);
-size fwrite(const void *, size, size, FILE *);
-int fflush(FILE *);
-int memcmp(const void *, const void *, size);
+#include "../tests/libc.h"
 
 enum { LONGEST = 65536, HEAD = 352, ROOM = 256, SP = 13, LR = 14, PC = 15 };
 enum place { LEAF, PROLOGUE, BODY, EPILOGUE };

@@ -1,16 +1,6 @@
 // Puts requests to the proved functions of crates/exports, linked as a C program links them. Requests and answers: tests/README.md.
 
-// The toolchain that compiles this has no C headers, so what is used of the C library is declared here.
-typedef unsigned char u8;
-typedef unsigned u32;
-typedef unsigned long long u64;
-typedef unsigned long size;
-typedef struct _IO_FILE FILE;
-extern FILE *stdin, *stdout;
-size fread(void *, size, size, FILE *);
-size fwrite(const void *, size, size, FILE *);
-int printf(const char *, ...);
-void *memset(void *, int, size);
+#include "libc.h"
 
 u32 leafbobbin_find(u32 image, const u8 *pdata, size pdata_bytes, u32 pc, u64 out[4]);
 u32 leafbobbin_size(u32 rva, const u8 *xdata, size xdata_bytes, u32 at, u32 *bytes);

@@ -2,10 +2,10 @@
 -- Assumes nothing.
 use Prim.Native.Nat.{ℕ, zero, suc, _+_, _≤_}
 use mathlib.Core.Path.{_≡_, refl, sym, ap, _∙_}
-use mathlib.Core.List.{List, _++_, append-assoc}
+use mathlib.Core.List.{List}
 use mathlib.Core.Bool.{Bool, true, false}
-use lib.ListN.{length, take, drop, length-append, length-drop}
-use lib.Seq.{take-append-seam, drop-append-seam}
+use lib.ListN.{length, drop, length-append, length-drop}
+use lib.Seq.{drop-append-seam}
 use lib.Dec.{eqb}
 use native.Mathlib.Omega.{arith}
 use Rattle.words.specs.Bits.{even}
@@ -33,7 +33,7 @@ use Rattle.demands.proofs.Sizing.{size-laws}
 use Rattle.demands.proofs.Packing.{packed-laws}
 use Rattle.demands.proofs.Walks.{walk-laws}
 use Rattle.demands.proofs.Staying.{Stays}
-use Rattle.demands.proofs.Wider.{Begins, stays-frame, stays-walk, stays-listed, stays-size}
+use Rattle.demands.proofs.Wider.{Begins, begins-alike, stays-frame, stays-walk, stays-listed, stays-size}
 use Rattle.demands.proofs.Numbers.{numbered, up-first, up-next, found-number, size-number, word-number, codes-number}
 use Rattle.demands.proofs.Whole.{whole-file}
 
@@ -72,14 +72,8 @@ untouched l w h = record {
 
 agree : (l : List Frame) (w w′ : Trail) → Begins (w .frames) (w′ .frames) → Agree (length (w .frames)) (walkedAll l w) (walkedAll l w′)
 agree l w w′ b =
-    let n : ℕ = length (w .frames) in
-    let k : length (w′ .frames) ≡ n + length (b .rest) = ap length (b .whole) ∙ length-append (w .frames) (b .rest) in
-    let tail : List Frame = drop (length (w′ .frames)) l in (
-      omega (arith, k),
-      ap (λ (fs : List Frame). take n (fs ++ tail)) (b .whole) ∙ ap (take n) (append-assoc (w .frames) (b .rest) tail)
-          ∙ take-append-seam (w .frames) (b .rest ++ tail)
-          ∙ sym (take-append-seam (w .frames) (drop n l)),
-    )
+    let k : length (w′ .frames) ≡ length (w .frames) + length (b .rest) = ap length (b .whole) ∙ length-append (w .frames) (b .rest) in
+    (omega (arith, k), sym (begins-alike l l w w′ b))
 
 -- ---- the demands
 pub demand1 : Demand1 ours

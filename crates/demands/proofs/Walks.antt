@@ -3,10 +3,9 @@
 use Prim.Native.Nat.{ℕ, zero, suc, _+_, _≤_, _<_, min}
 use mathlib.Core.Path.{_≡_, refl, sym, ap, _∙_, subst}
 use mathlib.Core.Logic.{_≢_}
-use mathlib.Core.List.{List, [], _∷_, _++_, append-assoc}
+use mathlib.Core.List.{List, [], _∷_}
 use mathlib.Core.Bool.{Bool, true, false}
-use lib.ListN.{length, getD, take, drop, List·getD-append}
-use lib.Seq.{take-append-seam}
+use lib.ListN.{length, getD, drop, List·getD-append}
 use lib.Dec.{eqb}
 use native.Mathlib.Omega.{arith}
 use borrow.Author.Tests.{eqb-true, eqb-false, ne-eqb}
@@ -22,7 +21,7 @@ use Rattle.walking.specs.declared.Stop.{Stop}
 use Rattle.walking.specs.declared.Stop.the-variants as Stop
 use Rattle.demands.specs.Reader.{ours}
 use Rattle.demands.specs.WalkLaws.{reached, codesRun, Why, Stops, Onward, Follows, Cut, WalkLaws}
-use Rattle.demands.proofs.Wider.{Begins}
+use Rattle.demands.proofs.Wider.{Begins, begins-alike}
 use Rattle.demands.proofs.Later.{Goes, next-given, next-refused}
 
 abbrev shownAt : (Regs → Unwound) → Regs → Frame
@@ -147,16 +146,7 @@ shorter t (suc n) (suc n′) h first g = go (λ c. shorter t n n′ (omega arith
     go below (refuse r) e = rw e (record { begins = record { rest = []; whole = refl }; frames = omega arith; whole = λ l. refl })
 
 cut : (l l′ : List Frame) (w w′ : Trail) → Shorter (length l) w w′ → Cut (length l) (walkedAll l w) (walkedAll l′ w′)
-cut l l′ w w′ s =
-    let n : ℕ = length (w .frames) in
-    let tail : List Frame = drop (length (w′ .frames)) l′ in
-    record {
-      frames = s .frames;
-      list = take-append-seam (w .frames) (drop n l) ∙ sym (take-append-seam (w .frames) (s .begins .rest ++ tail))
-          ∙ ap (take n) (sym (append-assoc (w .frames) (s .begins .rest) tail))
-          ∙ ap (λ (fs : List Frame). take n (fs ++ tail)) (sym (s .begins .whole));
-      whole = λ h. ap (λ v. walkedAll l v .walked) (s .whole h);
-    }
+cut l l′ w w′ s = record { frames = s .frames; list = begins-alike l l′ w w′ (s .begins); whole = λ h. ap (λ v. walkedAll l v .walked) (s .whole h) }
 
 pub walk-laws : WalkLaws ours
 walk-laws = record {

@@ -2,12 +2,12 @@
 -- too, since no byte outside was read.
 -- Assumes nothing.
 use Prim.Native.Nat.{ℕ, zero, suc, _+_, _-_, _*_, _%_, _^_, _≤_, _<_}
-use mathlib.Core.Path.{_≡_, refl, ap, ap₂, _∙_}
-use mathlib.Core.List.{List, [], _∷_, _++_}
+use mathlib.Core.Path.{_≡_, refl, sym, ap, ap₂, _∙_}
+use mathlib.Core.List.{List, [], _∷_, _++_, append-assoc}
 use mathlib.Core.Bool.{Bool, true, false, _&&_}
 use mathlib.Core.Option.{Option, none, some}
 use lib.ListN.{length, getD, take, drop, length-append, length-drop, List·getD-append}
-use lib.Seq.{getD-append-add, drop-append-add, drop-append-le, take-append-le}
+use lib.Seq.{getD-append-add, drop-append-add, drop-append-le, take-append-le, take-append-seam}
 use lib.Dec.{leb, ltb, eqb}
 use native.Mathlib.Omega.{arith}
 use borrow.Author.Tests.{leb-true, le-leb}
@@ -36,7 +36,7 @@ use Rattle.tables.specs.Record.{scopesAt, fullOf, fullShape, packedShape, shape
 use Rattle.tables.proofs.Heads.{head-small}
 use Rattle.words.proofs.Laws.{both}
 use Rattle.unwinding.specs.declared.Scope.{Scope}
-use Rattle.walking.specs.Walk.{Trail, nextFrame, listed, walkFrom}
+use Rattle.walking.specs.Walk.{Trail, nextFrame, listed, walkFrom, filled}
 use Rattle.walking.specs.declared.Frame.{Frame}
 use Rattle.walking.specs.declared.Stop.the-variants as Stop
 use Rattle.frame.specs.Frame.{Inputs, Caller, fitStack, uncovered, within, byRecord, frameOf}
@@ -257,6 +257,14 @@ module _ (t t′ : Inputs) (w : Wider t t′) (first : Bool) where
 pub record Begins (xs ys : List Frame) : Type 0 where
   pub rest : List Frame
   pub whole : ys ≡ xs ++ rest
+
+-- and so what two walks leave in lent lists, as far as the first went
+pub begins-alike : (l l′ : List Frame) (w w′ : Trail) → Begins (w .frames) (w′ .frames) → take (length (w .frames)) (filled l w) ≡ take (length (w .frames)) (filled l′ w′)
+begins-alike l l′ w w′ b =
+    let n : ℕ = length (w .frames) in
+    let tail : List Frame = drop (length (w′ .frames)) l′ in
+    take-append-seam (w .frames) (drop n l) ∙ sym (take-append-seam (w .frames) (b .rest ++ tail)) ∙ ap (take n) (sym (append-assoc (w .frames) (b .rest) tail))
+    ∙ ap (λ (fs : List Frame). take n (fs ++ tail)) (sym (b .whole))
 
 -- ---- the walk that is not refused by how much is lent
 abbrev Elsewhere : Trail → Type 0

@@ -1,6 +1,6 @@
 -- Demand 2: "For each .pdata/.xdata record, packed or full, it gives the caller that Microsoft's published rules give, and it writes packed
 -- records and their code bytes by the same rules." The rules, as document 01 decides them, are the definitions that `ours` names; a reader
--- that answers as they do is the only one. Beside it stand laws that say of its answers what the rules are for, without those definitions.
+-- that answers as they do is the only one. Beside it stand laws that say what its answers are for, and not how the operation is defined.
 use Prim.Native.Nat.{ℕ}
 use mathlib.Core.Path.{_≡_}
 use mathlib.Core.List.{List}
