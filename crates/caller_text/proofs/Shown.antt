@@ -6,7 +6,7 @@ use mathlib.Core.List.{List, _++_}
 use lib.ListN.{length}
 use native.Mathlib.Omega.{arith}
 use Rattle.words.specs.declared.Refusal.{Refusal}
-use Rattle.unwinding.specs.Answer.{ok, refuse}
+use Rattle.words.specs.Answer.{ok, refuse}
 use Rattle.frame.specs.Frame.{frame, unwound}
 use Rattle.report.specs.Report.{Report, report}
 use Rattle.text.specs.Text.{text}

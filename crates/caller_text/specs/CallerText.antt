@@ -18,7 +18,7 @@ use lib.ListN.{getD}
 use Rattle.words.specs.declared.Place.{Place}
 use Rattle.words.specs.declared.Verdict.{Verdict}
 use Rattle.words.specs.declared.Verdict.the-variants.{Given, Refused}
-use Rattle.unwinding.specs.Answer.{either}
+use Rattle.words.specs.Answer.{either}
 use Rattle.machine.specs.declared.Regs.{Regs}
 use Rattle.frame.specs.Frame.{frame, unwound}
 use Rattle.frame.specs.declared.Unwound.{Unwound}

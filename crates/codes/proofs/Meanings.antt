@@ -10,7 +10,7 @@ use native.Mathlib.Nat.{div-one}
 use borrow.Author.Tests.{eqb-true, eqb-false}
 use Rattle.words.specs.Units.{stackWords}
 use Rattle.words.proofs.Laws.{leb-same}
-use Rattle.unwinding.specs.Answer.{if_then_else_}
+use Rattle.words.specs.Answer.{if_then_else_}
 use Rattle.codes.specs.Table.{rows, rowIn, rowOf, range, lrIf}
 use Rattle.codes.specs.declared.Undo.the-variants.{Up, Pop, SpFrom, Vpop, LoadLr, Nothing}
 use Rattle.codes.specs.declared.Meaning.{Meaning}

@@ -9,7 +9,7 @@ use lib.Dec.{lit<}
 use native.Mathlib.Omega.{arith}
 use native.Mathlib.Nat.{mul-div-cancel-left}
 use Rattle.words.specs.declared.CodeBytes.{CodeBytes}
-use Rattle.unwinding.specs.Answer.{Res, ok, refuse}
+use Rattle.words.specs.Answer.{Res, ok, refuse}
 use Rattle.unwinding.specs.CodeList.{total}
 use Rattle.unwinding.proofs.Ends.{total-empty, total-step}
 use Rattle.codes.specs.Code.{Scan, takeAt, scan}

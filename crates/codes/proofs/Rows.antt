@@ -2,20 +2,17 @@
 -- halfwords; a code that undoes something has an instruction.
 -- Assumes nothing.
 use Prim.Native.Nat.{ℕ, _≤_}
-use mathlib.Core.List.{List, [], _∷_}
+use mathlib.Core.List.{List, _∷_, []}
 use mathlib.Core.Path.{_≡_, refl}
 use mathlib.Core.Bool.{Bool, true, false, _&&_, _||_}
 use lib.Dec.{T, leb, leb→le}
 use borrow.Author.Tests.{leb-true}
-use Rattle.unwinding.specs.Answer.{if_then_else_}
+use Rattle.words.specs.Answer.{if_then_else_}
+use Rattle.words.proofs.Tests.{T-both as both}
 use Rattle.codes.specs.Table.{Row, row, rows, rowIn, rowOf, none}
 use Rattle.codes.specs.declared.Undo.{Undo}
 use Rattle.codes.specs.declared.Meaning.{Meaning}
 use Rattle.codes.specs.declared.Meaning.the-variants.{Does, End, Undefined}
-
-pub both : (a b : Bool) → T (a && b) → T a × T b
-both true b t = (tt, t)
-both false b t = absurd t
 
 -- the test holds of each row, and of the row that stands for no byte
 abbrev all : (Row → Bool) → List Row → Bool

@@ -12,7 +12,7 @@ use borrow.Author.Tests.{leb-true}
 use Rattle.words.specs.Units.{codeBytes, halfwordBytes}
 use Rattle.words.specs.declared.CodeBytes.{CodeBytes}
 use Rattle.words.specs.declared.Halfwords.{Halfwords}
-use Rattle.unwinding.specs.Answer.{ok, if_then_else_}
+use Rattle.words.specs.Answer.{ok, if_then_else_}
 use Rattle.codes.specs.Table.{Row, rowOf}
 use Rattle.codes.specs.Code.{value, takeFrom, takeAt, taken, Scan, bad, follow, scanFrom, scan}
 use Rattle.codes.specs.declared.Code.{Code}

@@ -15,7 +15,7 @@ use Rattle.words.specs.Units.{codeBytes}
 use Rattle.words.specs.declared.CodeBytes.{CodeBytes}
 use Rattle.words.specs.declared.Halfwords.{Halfwords}
 use Rattle.words.specs.declared.Refusal.{Refusal}
-use Rattle.unwinding.specs.Answer.{Res, ok, refuse, _>>=_, if_then_else_}
+use Rattle.words.specs.Answer.{Res, ok, refuse, _>>=_, if_then_else_}
 use Rattle.unwinding.specs.CodeList.{total, endOf}
 use Rattle.unwinding.proofs.Ends.{total-empty, total-step, total-append, endOf-step, endOf-whole}
 use Rattle.codes.specs.Table.{rowOf}

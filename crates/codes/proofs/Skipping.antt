@@ -10,7 +10,7 @@ use borrow.Author.Tests.{ne-eqb, le-leb, lt-leb}
 use Rattle.words.specs.Units.{codeBytes}
 use Rattle.words.specs.declared.CodeBytes.{CodeBytes}
 use Rattle.words.specs.declared.Halfwords.{Halfwords}
-use Rattle.unwinding.specs.Answer.{if_then_else_}
+use Rattle.words.specs.Answer.{if_then_else_}
 use Rattle.codes.specs.Table.{rowOf}
 use Rattle.codes.specs.Code.{size, takeFrom, takeAt}
 use Rattle.codes.specs.Reading.{past}

@@ -6,7 +6,7 @@ use lib.Dec.{leb}
 use Rattle.words.specs.declared.CodeBytes.{CodeBytes}
 use Rattle.words.specs.declared.Refusal.the-variants.{BadCodes}
 use Rattle.words.specs.Units.{codeBytes, halfwordBytes}
-use Rattle.unwinding.specs.Answer.{Res, ok, refuse, _>>=_, if_then_else_}
+use Rattle.words.specs.Answer.{Res, ok, refuse, _>>=_, if_then_else_}
 use Rattle.unwinding.specs.CodeList.{Codes}
 use Rattle.codes.specs.Table.{Row, rowOf}
 use Rattle.codes.specs.declared.Code.{Code}

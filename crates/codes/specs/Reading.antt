@@ -3,7 +3,7 @@ use Prim.Native.Nat.{ℕ, _+_, _/_}
 use mathlib.Core.Bool.{true, false}
 use Rattle.words.specs.declared.CodeBytes.{CodeBytes}
 use Rattle.words.specs.declared.Refusal.the-variants.{BadCodes}
-use Rattle.unwinding.specs.Answer.{either}
+use Rattle.words.specs.Answer.{either}
 use Rattle.unwinding.specs.CodeList.{total}
 use Rattle.codes.specs.Code.{Scan}
 use Rattle.codes.specs.declared.Code.{Code}

@@ -4,7 +4,7 @@ use mathlib.Core.List.{List, [], _∷_}
 use lib.Dec.{leb, eqb}
 use Rattle.words.specs.declared.CodeBytes.{CodeBytes}
 use Rattle.words.specs.Units.{codeBytes}
-use Rattle.unwinding.specs.Answer.{if_then_else_}
+use Rattle.words.specs.Answer.{if_then_else_}
 use Rattle.codes.specs.Table.{rowOf}
 use Rattle.codes.specs.Code.{size, takeFrom}
 use Rattle.codes.specs.declared.Taken.{Taken}

@@ -23,7 +23,7 @@ use lib.Dec.{leb, eqb}
 use Rattle.words.specs.declared.Halfwords.{Halfwords}
 use Rattle.words.specs.Units.{halfwords, stackWords}
 use Rattle.words.specs.Bits.{bits}
-use Rattle.unwinding.specs.Answer.{if_then_else_}
+use Rattle.words.specs.Answer.{if_then_else_}
 use Rattle.codes.specs.declared.Undo.{Undo}
 use Rattle.codes.specs.declared.Undo.the-variants.{Up, Pop, SpFrom, Vpop, LoadLr, Nothing}
 use Rattle.codes.specs.declared.Meaning.{Meaning}

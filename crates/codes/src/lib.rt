@@ -13,7 +13,7 @@ ghost use lib.ListN.{length, take, drop};
 ghost use mathlib.Core.Bool.{_||_};
 ghost use lib.Dec.{leb, eqb};
 ghost use Rattle.words.specs.Units.{codeBytes, stackWords};
-ghost use Rattle.unwinding.specs.Answer.{if_then_else_};
+ghost use Rattle.words.specs.Answer.{if_then_else_};
 ghost use Rattle.codes.specs.Table.{rowOf, range, lrIf};
 ghost use Rattle.codes.specs.Code.{value as valueOf, taken as takenOf, takeAt, scan as scanOf};
 ghost use Rattle.codes.specs.Reading.{past, moved, scanned, turn, soFar, more};

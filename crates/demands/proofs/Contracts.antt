@@ -25,8 +25,8 @@ use Rattle.walking.specs.declared.WalkedAll.{WalkedAll}
 use Rattle.walking.proofs.walk as Walk
 use Rattle.text.specs.Overlay.{overlay}
 use Rattle.report.specs.Parts.{parts}
-use Rattle.tables.proofs.pdata.find.Kinds as Find·kinds
-use Rattle.tables.proofs.pdata.find.Reads as Find
+use Rattle.pdata.proofs.find.Kinds as Find·kinds
+use Rattle.pdata.proofs.find.Reads as Find
 use Rattle.frame.proofs.unwind.Kinds as Unwind·kinds
 use Rattle.frame.proofs.unwind.Reads as Unwind
 use Rattle.walking.proofs.walk_all.Kinds as WalkAll·kinds

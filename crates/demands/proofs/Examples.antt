@@ -14,7 +14,7 @@ use Rattle.words.specs.declared.Place.{Place}
 use Rattle.words.specs.declared.Place.the-variants.{Leaf, Prologue, Body, Epilogue}
 use Rattle.words.specs.declared.Refusal.the-variants.{InsideInstruction, BadStack}
 use Rattle.words.specs.declared.Verdict.the-variants.{Given, Refused}
-use Rattle.unwinding.specs.Answer.{Res, ok, refuse, _>>=_, if_then_else_}
+use Rattle.words.specs.Answer.{Res, ok, refuse, _>>=_, if_then_else_}
 use Rattle.unwinding.specs.CodeList.{run}
 use Rattle.unwinding.specs.Shape.{Shape}
 use Rattle.unwinding.specs.View.{view}
@@ -25,11 +25,11 @@ use Rattle.codes.specs.Code.{size, codesAt}
 use Rattle.machine.specs.declared.Regs.{Regs}
 use Rattle.machine.specs.Registers.{reg, setReg, setSp}
 use Rattle.machine.specs.Step.{stands, load, popReg, pop, step}
-use Rattle.tables.specs.Pdata.{find}
-use Rattle.tables.specs.Packed.{fields, amount, folded, PF, EF}
-use Rattle.tables.specs.PackedCodes.{writeCodes}
-use Rattle.tables.specs.Xdata.{xdataSize}
-use Rattle.tables.specs.Record.{packedShape, fullShape}
+use Rattle.pdata.specs.Pdata.{find}
+use Rattle.packed.specs.Packed.{fields, amount, folded, PF, EF}
+use Rattle.packed_codes.specs.PackedCodes.{writeCodes}
+use Rattle.xdata.specs.Xdata.{xdataSize}
+use Rattle.record.specs.Record.{packedShape, fullShape}
 use Rattle.frame.specs.Frame.{Inputs, Caller, fitStack, returned, within, frame, unwound}
 use Rattle.walking.specs.Walk.{walk}
 use Rattle.walking.specs.declared.Stop.the-variants.{End}
@@ -38,7 +38,7 @@ use Rattle.report.specs.Listing.{listing}
 use Rattle.text.specs.Text.{text}
 use Rattle.report.proofs.Opened.{opened}
 use Rattle.words.proofs.Bytes.{bytesOf}
-use Rattle.tables.proofs.At.{at, says}
+use Rattle.record.proofs.At.{at, says}
 use Rattle.forward.specs.Met.{At}
 use Rattle.forward.proofs.Framed.{stack-end, passed}
 use Rattle.forward.proofs.Examples.{own, shape, views, known, framed}

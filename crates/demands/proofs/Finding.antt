@@ -13,14 +13,14 @@ use borrow.Author.Tests.{leb-true, leb-false, ltb-true, ltb-false}
 use Rattle.words.specs.Bits.{even}
 use Rattle.words.specs.declared.Refusal.{Refusal}
 use Rattle.words.specs.declared.Refusal.the-variants.{UnfitInput, PcBelowBase, StartsNotAscending}
-use Rattle.words.proofs.Laws.{both}
-use Rattle.unwinding.specs.Answer.{Res, ok, _>>_, need, if_then_else_, maybe}
+use Rattle.words.proofs.Tests.{both}
+use Rattle.words.specs.Answer.{Res, ok, _>>_, need, if_then_else_, maybe}
 use Rattle.unwinding.specs.View.{ascending}
-use Rattle.tables.specs.Pdata.{entriesFrom, entries, entryAt, starts, lastUpTo, find, found}
-use Rattle.tables.specs.declared.Entry.{Entry}
-use Rattle.tables.specs.declared.Found.{Found}
-use Rattle.tables.specs.declared.Found.the-variants.{Record, Nothing, Refused}
-use Rattle.tables.proofs.Finding.{startAt}
+use Rattle.pdata.specs.Pdata.{entriesFrom, entries, entryAt, starts, lastUpTo, find, found}
+use Rattle.pdata.specs.declared.Entry.{Entry}
+use Rattle.pdata.specs.declared.Found.{Found}
+use Rattle.pdata.specs.declared.Found.the-variants.{Record, Nothing, Refused}
+use Rattle.pdata.proofs.Finding.{startAt}
 use Rattle.report.proofs.Opened.{opened}
 use Rattle.demands.specs.Reader.{ours}
 use Rattle.demands.specs.FindLaws.{Greatest, FindLaws}

@@ -17,7 +17,7 @@ use Rattle.words.specs.declared.Place.{Place}
 use Rattle.words.specs.declared.Place.the-variants.{Leaf, Prologue, Epilogue}
 use Rattle.words.specs.declared.Refusal.{Refusal}
 use Rattle.words.specs.declared.Refusal.the-variants.{UnfitInput, InsideInstruction, Conditional, BadStack, SpFell, NoRecord, SpSame}
-use Rattle.unwinding.specs.Answer.{Res, ok, refuse, _>>=_, _>>_, need, if_then_else_, maybe}
+use Rattle.words.specs.Answer.{Res, ok, refuse, _>>=_, _>>_, need, if_then_else_, maybe}
 use Rattle.unwinding.specs.CodeList.{endOf, run}
 use Rattle.unwinding.specs.Shape.{Shape}
 use Rattle.unwinding.specs.View.{Exit, View, view}
@@ -26,15 +26,15 @@ use Rattle.codes.specs.declared.Code.{Code}
 use Rattle.codes.specs.Code.{size, codesAt}
 use Rattle.machine.specs.declared.Regs.{Regs}
 use Rattle.machine.specs.Step.{stands, step}
-use Rattle.tables.specs.declared.Entry.{Entry}
-use Rattle.tables.specs.Pdata.{find}
-use Rattle.tables.specs.Xdata.{fitXdata}
-use Rattle.tables.specs.Record.{shapeOf}
+use Rattle.pdata.specs.declared.Entry.{Entry}
+use Rattle.pdata.specs.Pdata.{find}
+use Rattle.xdata.specs.Xdata.{fitXdata}
+use Rattle.record.specs.Record.{shapeOf}
 use Rattle.frame.specs.declared.Unwound.{Unwound}
 use Rattle.frame.specs.Frame.{Inputs, Caller, fitStack, returned, leafOf, uncovered, within, byRecord, frameOf, frame, unwound}
 use Rattle.walking.specs.Walk.{nextFrame}
 use Rattle.walking.proofs.Turns.{next-was}
-use Rattle.forward.proofs.Binding.{bind-ok, need-ok}
+use Rattle.words.proofs.Answers.{bind-ok, need-ok}
 use Rattle.demands.specs.WalkLaws as Laws
 
 -- ---- a place inside a function is no leaf

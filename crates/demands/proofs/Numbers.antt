@@ -19,7 +19,7 @@ use Rattle.words.specs.declared.Place.{Place}
 use Rattle.words.specs.declared.Refusal.{Refusal}
 use Rattle.words.specs.declared.Verdict.the-variants as Verdict
 use Rattle.words.specs.declared.Refusal.the-variants.{UnfitInput, PcBelowBase, StartsNotAscending, Reserved, OutsideXdata, BadCodes, BadLayout, BadStack, InsideInstruction, Conditional, SpFell, NoRecord, SpSame, UnfitReport}
-use Rattle.unwinding.specs.Answer.{Res, ok, refuse, _>>=_, _>>_, need, if_then_else_, maybe}
+use Rattle.words.specs.Answer.{Res, ok, refuse, _>>=_, _>>_, need, if_then_else_, maybe}
 use Rattle.unwinding.specs.CodeList.{total, endOf, run}
 use Rattle.unwinding.specs.Shape.{Shape}
 use Rattle.unwinding.specs.View.{Exit, View, ascending, fits, exits, view}
@@ -34,16 +34,17 @@ use Rattle.codes.specs.declared.Undo.{Undo}
 use Rattle.codes.specs.declared.Undo.the-variants.{Up, Pop, SpFrom, Vpop, LoadLr, Nothing}
 use Rattle.machine.specs.declared.Regs.{Regs}
 use Rattle.machine.specs.Step.{stands, load, popReg, popD, pop, vpop, effect, step}
-use Rattle.tables.specs.declared.Entry.{Entry}
-use Rattle.tables.specs.declared.Found.the-variants as Found
-use Rattle.tables.specs.declared.Packed.{Packed}
-use Rattle.tables.specs.declared.WordOf.{WordOf}
-use Rattle.tables.specs.declared.CodesOf.{CodesOf}
-use Rattle.tables.specs.Pdata.{entries, find, found}
-use Rattle.tables.specs.Packed.{fields, wordOf, fieldsFit, allowed, writeWord, wordAnswer}
-use Rattle.tables.specs.PackedCodes.{written, writeCodes, codesAnswer}
-use Rattle.tables.specs.Xdata.{fitXdata, recordBytes, scopeCount, shortHead, longHead, headAt, xdataSize, sizeAnswer}
-use Rattle.tables.specs.Record.{scopesAt, fullShape, packedShape, shapeOf}
+use Rattle.pdata.specs.declared.Entry.{Entry}
+use Rattle.pdata.specs.declared.Found.the-variants as Found
+use Rattle.packed.specs.declared.Packed.{Packed}
+use Rattle.packed.specs.declared.WordOf.{WordOf}
+use Rattle.packed_codes.specs.declared.CodesOf.{CodesOf}
+use Rattle.pdata.specs.Pdata.{entries, find, found}
+use Rattle.packed.specs.Packed.{fields, wordOf, fieldsFit, allowed, writeWord, wordAnswer}
+use Rattle.packed_codes.specs.PackedCodes.{written, writeCodes, codesAnswer}
+use Rattle.xdata.specs.Xdata.{fitXdata, recordBytes, scopeCount, shortHead, longHead, headAt, xdataSize, sizeAnswer}
+use Rattle.xdata.specs.Scopes.{scopesAt}
+use Rattle.record.specs.Record.{fullShape, packedShape, shapeOf}
 use Rattle.frame.specs.Frame.{Inputs, fitStack, uncovered, within, byRecord, frameOf}
 use Rattle.walking.specs.Walk.{nextFrame}
 

@@ -12,9 +12,9 @@ use Rattle.words.specs.Bits.{even}
 use Rattle.words.specs.Refusals.{number, verdictNumber}
 use Rattle.words.specs.declared.Refusal.{Refusal}
 use Rattle.words.specs.declared.Verdict.the-variants as Verdict
-use Rattle.unwinding.specs.Answer.{Res, ok, refuse, if_then_else_}
+use Rattle.words.specs.Answer.{Res, ok, refuse, if_then_else_}
 use Rattle.machine.specs.declared.Regs.{Regs}
-use Rattle.tables.specs.Xdata.{sizeAnswer}
+use Rattle.xdata.specs.Xdata.{sizeAnswer}
 use Rattle.frame.specs.Frame.{Inputs, Caller, frame, unwound}
 use Rattle.walking.specs.Walk.{Trail, nextFrame, stopped, walkFrom, walk, walkedAll}
 use Rattle.walking.specs.declared.Frame.{Frame}

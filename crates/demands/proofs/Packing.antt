@@ -7,13 +7,13 @@ use mathlib.Core.Bool.{Bool, true, false, _&&_}
 use native.Mathlib.Omega.{arith}
 use Rattle.words.specs.declared.Refusal.the-variants.{Reserved}
 use Rattle.words.specs.declared.Verdict.the-variants.{Given, Refused}
-use Rattle.unwinding.specs.Answer.{Res, ok, refuse, _>>_, need, if_then_else_, verdict}
+use Rattle.words.specs.Answer.{Res, ok, refuse, _>>_, need, if_then_else_, verdict}
 use Rattle.unwinding.specs.CodeList.{Codes}
 use Rattle.codes.specs.declared.Code.{Code}
-use Rattle.tables.specs.Packed.{fields, fieldsFit, allowed, wordOf, writeWord, wordAnswer}
-use Rattle.tables.specs.PackedCodes.{written, writeCodes, codesAnswer}
-use Rattle.tables.specs.declared.Packed.{Packed}
-use Rattle.tables.proofs.Opened.{opened}
+use Rattle.packed.specs.Packed.{fields, fieldsFit, allowed, wordOf, writeWord, wordAnswer}
+use Rattle.packed_codes.specs.PackedCodes.{written, writeCodes, codesAnswer}
+use Rattle.packed.specs.declared.Packed.{Packed}
+use Rattle.record.proofs.Opened.{opened}
 use Rattle.packed.proofs.Words.{fields-fit, true-fit, write-then-read, read-then-write}
 use Rattle.packed_codes.specs.Lists.{Holds}
 use Rattle.packed_codes.proofs.Written.{codes-given}

@@ -10,7 +10,7 @@ use Rattle.words.specs.declared.Place.the-variants.{Leaf, Prologue, Body}
 use Rattle.words.specs.declared.Refusal.{Refusal}
 use Rattle.words.specs.declared.Verdict.{Verdict}
 use Rattle.words.specs.declared.Verdict.the-variants.{Given, Refused}
-use Rattle.unwinding.specs.Answer.{ok, refuse}
+use Rattle.words.specs.Answer.{ok, refuse}
 use Rattle.machine.specs.Registers.{reg}
 use Rattle.machine.specs.declared.Regs.{Regs}
 use Rattle.frame.specs.Frame.{Inputs, unwound, frame, leafOf}

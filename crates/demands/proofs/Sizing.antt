@@ -12,11 +12,12 @@ use Rattle.words.specs.Lent.{Lent, holds, wordAt}
 use Rattle.words.specs.declared.Refusal.the-variants.{UnfitInput, Reserved, OutsideXdata}
 use Rattle.words.specs.declared.Verdict.the-variants.{Given}
 use Rattle.words.proofs.Bytes.{bytesOf}
-use Rattle.unwinding.specs.Answer.{Res, ok, refuse, verdict, if_then_else_}
-use Rattle.tables.specs.Xdata.{fitXdata, recordBytes, shortHead, longHead, headAt, xdataSize, sizeAnswer, wholeRecord}
-use Rattle.tables.specs.declared.Head.{Head}
-use Rattle.tables.proofs.Heads.{longOf, head-small}
-use Rattle.forward.proofs.Binding.{bind-ok, need-ok}
+use Rattle.words.specs.Answer.{Res, ok, refuse, verdict, if_then_else_}
+use Rattle.xdata.specs.Xdata.{fitXdata, recordBytes, shortHead, longHead, headAt, xdataSize, sizeAnswer}
+use Rattle.xdata.specs.as_coded.Heads.{wholeRecord}
+use Rattle.xdata.specs.declared.Head.{Head}
+use Rattle.xdata.proofs.Heads.{longOf, head-small}
+use Rattle.words.proofs.Answers.{bind-ok, need-ok}
 use Rattle.report.proofs.Opened.{opened}
 use Rattle.demands.specs.Reader.{ours}
 use Rattle.demands.specs.SizeLaws.{wordCount, SizeLaws}

@@ -6,7 +6,7 @@ use mathlib.Core.List.{List, [], _∷_}
 use mathlib.Core.Bool.{Bool, true, false, true≢false}
 use Rattle.words.specs.Refusals.{number, verdictNumber}
 use Rattle.words.specs.declared.Refusal.{Refusal}
-use Rattle.unwinding.specs.Answer.{Res, ok, refuse, _>>=_, _>>_, need, verdict}
+use Rattle.words.specs.Answer.{Res, ok, refuse, _>>=_, _>>_, need, verdict}
 use Rattle.unwinding.specs.CodeList.{run}
 use Rattle.demands.specs.Demand1.{ofExtent}
 

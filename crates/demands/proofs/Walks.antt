@@ -11,7 +11,7 @@ use native.Mathlib.Omega.{arith}
 use borrow.Author.Tests.{eqb-true, eqb-false, ne-eqb}
 use Rattle.words.specs.Bits.{even}
 use Rattle.words.specs.declared.Verdict.the-variants.{Given}
-use Rattle.unwinding.specs.Answer.{Res, ok, refuse}
+use Rattle.words.specs.Answer.{Res, ok, refuse}
 use Rattle.machine.specs.declared.Regs.{Regs}
 use Rattle.frame.specs.Frame.{Inputs, Caller, unwound}
 use Rattle.frame.specs.declared.Unwound.{Unwound}

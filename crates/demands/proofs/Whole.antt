@@ -11,7 +11,7 @@ use native.Mathlib.Omega.{arith}
 use borrow.Author.Tests.{leb-true, leb-false, eqb-true, eqb-false}
 use Rattle.words.specs.Lent.{lent, wordAt}
 use Rattle.words.specs.declared.Refusal.the-variants.{UnfitReport}
-use Rattle.unwinding.specs.Answer.{ok, refuse}
+use Rattle.words.specs.Answer.{ok, refuse}
 use Rattle.report.specs.Report.{Report, report, headBytes}
 use Rattle.report.specs.Listing.{printed, listing}
 use Rattle.report.proofs.Reading.{wholeOf, too-short, not-whole}

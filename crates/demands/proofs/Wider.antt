@@ -17,7 +17,7 @@ use Rattle.words.specs.Units.{codeWordBytes}
 use Rattle.words.specs.Refusals.{number}
 use Rattle.words.specs.declared.Refusal.{Refusal}
 use Rattle.words.specs.declared.Refusal.the-variants.{BadStack, OutsideXdata, Reserved, UnfitInput}
-use Rattle.unwinding.specs.Answer.{Res, ok, refuse, if_then_else_, maybe}
+use Rattle.words.specs.Answer.{Res, ok, refuse, if_then_else_, maybe}
 use Rattle.unwinding.specs.CodeList.{run}
 use Rattle.unwinding.specs.Shape.{Shape}
 use Rattle.unwinding.specs.View.{view}
@@ -28,13 +28,14 @@ use Rattle.codes.specs.declared.Undo.{Undo}
 use Rattle.codes.specs.declared.Undo.the-variants.{Up, Pop, SpFrom, Vpop, LoadLr, Nothing}
 use Rattle.machine.specs.declared.Regs.{Regs}
 use Rattle.machine.specs.Step.{stands, load, popReg, popD, pop, vpop, effect, step}
-use Rattle.tables.specs.declared.Entry.{Entry}
-use Rattle.tables.specs.declared.Head.{Head}
-use Rattle.tables.specs.Pdata.{find}
-use Rattle.tables.specs.Xdata.{X, fitXdata, scopeCount, codesOffset, handlerOffset, recordBytes, shortHead, longHead, headAt, xdataSize}
-use Rattle.tables.specs.Record.{scopesAt, fullOf, fullShape, packedShape, shapeOf}
-use Rattle.tables.proofs.Heads.{head-small}
-use Rattle.words.proofs.Laws.{both}
+use Rattle.pdata.specs.declared.Entry.{Entry}
+use Rattle.xdata.specs.declared.Head.{Head}
+use Rattle.pdata.specs.Pdata.{find}
+use Rattle.xdata.specs.Xdata.{X, fitXdata, scopeCount, codesOffset, handlerOffset, recordBytes, shortHead, longHead, headAt, xdataSize}
+use Rattle.xdata.specs.Scopes.{scopesAt}
+use Rattle.record.specs.Record.{fullOf, fullShape, packedShape, shapeOf}
+use Rattle.xdata.proofs.Heads.{head-small}
+use Rattle.words.proofs.Tests.{both}
 use Rattle.unwinding.specs.declared.Scope.{Scope}
 use Rattle.walking.specs.Walk.{Trail, nextFrame, listed, walkFrom, filled}
 use Rattle.walking.specs.declared.Frame.{Frame}

@@ -12,11 +12,11 @@ use Rattle.words.specs.Lent.{Lent}
 use Rattle.words.specs.Refusals.{number, verdictNumber}
 use Rattle.words.specs.declared.Refusal.{Refusal}
 use Rattle.words.specs.declared.Verdict.the-variants as Verdict
-use Rattle.unwinding.specs.Answer.{refuse}
+use Rattle.words.specs.Answer.{refuse}
 use Rattle.machine.specs.declared.Regs.{Regs}
-use Rattle.tables.specs.Xdata.{fitXdata}
-use Rattle.tables.specs.declared.Found.the-variants as Found
-use Rattle.tables.specs.declared.Packed.{Packed}
+use Rattle.xdata.specs.Xdata.{fitXdata}
+use Rattle.pdata.specs.declared.Found.the-variants as Found
+use Rattle.packed.specs.declared.Packed.{Packed}
 use Rattle.frame.specs.Frame.{Inputs, fitStack, unwound}
 use Rattle.walking.specs.declared.Frame.{Frame}
 use Rattle.walking.specs.declared.Stop.the-variants as Stop

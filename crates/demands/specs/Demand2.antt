@@ -6,7 +6,7 @@ use mathlib.Core.Path.{_≡_}
 use mathlib.Core.List.{List}
 use Rattle.words.specs.Lent.{Lent}
 use Rattle.machine.specs.declared.Regs.{Regs}
-use Rattle.tables.specs.declared.Packed.{Packed}
+use Rattle.packed.specs.declared.Packed.{Packed}
 use Rattle.frame.specs.Frame.{Inputs}
 use Rattle.walking.specs.declared.Frame.{Frame}
 use Rattle.demands.specs.Reader.{Reader, ours}

@@ -4,9 +4,9 @@ use mathlib.Core.Path.{_≡_}
 use mathlib.Core.List.{List}
 use lib.ListN.{length}
 use Rattle.words.specs.Bits.{even}
-use Rattle.tables.specs.Pdata.{entryAt}
-use Rattle.tables.specs.declared.Entry.{Entry}
-use Rattle.tables.specs.declared.Found.the-variants.{Record, Nothing}
+use Rattle.pdata.specs.Pdata.{entryAt}
+use Rattle.pdata.specs.declared.Entry.{Entry}
+use Rattle.pdata.specs.declared.Found.the-variants.{Record, Nothing}
 use Rattle.demands.specs.Reader.{Reader}
 
 -- the table's record of its number, which starts at or below the pc, and no record starts between them

@@ -5,9 +5,9 @@ use mathlib.Core.Path.{_≡_}
 use mathlib.Core.Bool.{_&&_}
 use Rattle.words.specs.declared.Refusal.the-variants.{Reserved}
 use Rattle.words.specs.declared.Verdict.the-variants.{Given, Refused}
-use Rattle.unwinding.specs.Answer.{if_then_else_}
-use Rattle.tables.specs.Packed.{fields, fieldsFit, allowed}
-use Rattle.tables.specs.declared.Packed.{Packed}
+use Rattle.words.specs.Answer.{if_then_else_}
+use Rattle.packed.specs.Packed.{fields, fieldsFit, allowed}
+use Rattle.packed.specs.declared.Packed.{Packed}
 use Rattle.packed_codes.specs.Lists.{Holds}
 use Rattle.demands.specs.Reader.{Reader}
 

@@ -4,15 +4,15 @@ use mathlib.Core.List.{List}
 use lib.ListN.{length}
 use Rattle.words.specs.Lent.{Lent}
 use Rattle.machine.specs.declared.Regs.{Regs}
-use Rattle.tables.specs.Pdata.{find, found}
-use Rattle.tables.specs.Xdata.{xdataSize, sizeAnswer}
-use Rattle.tables.specs.Packed.{writeWord, wordAnswer}
-use Rattle.tables.specs.PackedCodes.{writeCodes, codesAnswer}
-use Rattle.tables.specs.declared.Found.{Found}
-use Rattle.tables.specs.declared.SizeOf.{SizeOf}
-use Rattle.tables.specs.declared.Packed.{Packed}
-use Rattle.tables.specs.declared.WordOf.{WordOf}
-use Rattle.tables.specs.declared.CodesOf.{CodesOf}
+use Rattle.pdata.specs.Pdata.{find, found}
+use Rattle.xdata.specs.Xdata.{xdataSize, sizeAnswer}
+use Rattle.packed.specs.Packed.{writeWord, wordAnswer}
+use Rattle.packed_codes.specs.PackedCodes.{writeCodes, codesAnswer}
+use Rattle.pdata.specs.declared.Found.{Found}
+use Rattle.xdata.specs.declared.SizeOf.{SizeOf}
+use Rattle.packed.specs.declared.Packed.{Packed}
+use Rattle.packed.specs.declared.WordOf.{WordOf}
+use Rattle.packed_codes.specs.declared.CodesOf.{CodesOf}
 use Rattle.frame.specs.Frame.{Inputs, frame, unwound}
 use Rattle.frame.specs.declared.Unwound.{Unwound}
 use Rattle.walking.specs.Walk as Walking

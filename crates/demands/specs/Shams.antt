@@ -9,11 +9,11 @@ use Rattle.words.specs.Lent.{Lent, wordAt}
 use Rattle.words.specs.Units.{codeBytes}
 use Rattle.words.specs.declared.Refusal.{Refusal}
 use Rattle.words.specs.declared.Verdict.the-variants.{Given}
-use Rattle.unwinding.specs.Answer.{ok, refuse, if_then_else_}
+use Rattle.words.specs.Answer.{ok, refuse, if_then_else_}
 use Rattle.machine.specs.declared.Regs.{Regs}
-use Rattle.tables.specs.declared.Packed.{Packed}
-use Rattle.tables.specs.declared.WordOf.{WordOf}
-use Rattle.tables.specs.declared.CodesOf.{CodesOf}
+use Rattle.packed.specs.declared.Packed.{Packed}
+use Rattle.packed.specs.declared.WordOf.{WordOf}
+use Rattle.packed_codes.specs.declared.CodesOf.{CodesOf}
 use Rattle.frame.specs.Frame.{Inputs, unwound, leafOf}
 use Rattle.frame.specs.declared.Unwound.{Unwound}
 use Rattle.walking.specs.declared.Frame.{Frame}

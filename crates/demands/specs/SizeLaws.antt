@@ -6,7 +6,7 @@ use lib.Dec.{eqb}
 use Rattle.words.specs.Bits.{bits, bit}
 use Rattle.words.specs.Lent.{Lent, end, wordAt}
 use Rattle.words.specs.declared.Verdict.the-variants.{Given}
-use Rattle.unwinding.specs.Answer.{if_then_else_}
+use Rattle.words.specs.Answer.{if_then_else_}
 use Rattle.demands.specs.Reader.{Reader}
 
 -- the words of a record that begins with w and v: its head ("if bits 23-31 are all 0, word 1 follows"), "with E=0, count scope words", the

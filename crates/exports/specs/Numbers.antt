@@ -5,10 +5,10 @@ use mathlib.Core.List.{List, [], _∷_}
 use lib.ListN.{getD}
 use Rattle.words.specs.Refusals.{number}
 use Rattle.words.specs.Units.{halfwords}
-use Rattle.tables.specs.declared.CodesOf.{CodesOf}
-use Rattle.tables.specs.declared.Found.{Found}
-use Rattle.tables.specs.declared.Found.the-variants.{Record, Nothing, Refused}
-use Rattle.tables.specs.declared.Packed.{Packed}
+use Rattle.packed_codes.specs.declared.CodesOf.{CodesOf}
+use Rattle.pdata.specs.declared.Found.{Found}
+use Rattle.pdata.specs.declared.Found.the-variants.{Record, Nothing, Refused}
+use Rattle.packed.specs.declared.Packed.{Packed}
 
 -- whether a record was found, its number, its start and its word
 abbrev pub foundNumbers : Found → List ℕ

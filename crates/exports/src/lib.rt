@@ -1,16 +1,16 @@
 // What a program in C or Rust links (`rt staticlib exports`). A slice is passed as a pointer and a length, an array as a pointer. No function
 // asks anything of what it is given.
-use tables::Found;
-use tables::Packed;
+use packed::Packed;
+use pdata::Found;
 use words::Halfwords;
 ghost use mathlib.Core.Path.{_≡_};
 ghost use lib.ListN.{length};
 ghost use Rattle.words.specs.Lent.{lent};
 ghost use Rattle.words.specs.Refusals.{verdictNumber};
-ghost use Rattle.tables.specs.Pdata.{find, found};
-ghost use Rattle.tables.specs.Xdata.{xdataSize, sizeAnswer};
-ghost use Rattle.tables.specs.Packed.{writeWord, wordAnswer};
-ghost use Rattle.tables.specs.PackedCodes.{writeCodes, codesAnswer};
+ghost use Rattle.pdata.specs.Pdata.{find, found};
+ghost use Rattle.xdata.specs.Xdata.{xdataSize, sizeAnswer};
+ghost use Rattle.packed.specs.Packed.{writeWord, wordAnswer};
+ghost use Rattle.packed_codes.specs.PackedCodes.{writeCodes, codesAnswer};
 ghost use Rattle.text.specs.Overlay.{overlay};
 ghost use Rattle.report.specs.Listing.{listing};
 ghost use Rattle.caller_text.specs.CallerText.{callerText};
@@ -68,7 +68,7 @@ fn tell(f: Found) -> Told
 pub extern "C" fn leafbobbin_find(image: u32, pdata: &[u8], pc: u32, out: &mut [u64; 4]) -> u32
     ensures { λ r. ⌜ (r ≡ foundRefusal (found (find image (now (pdata .entry)) pc))) × (now (out .exit) ≡ foundNumbers (found (find image (now (pdata .entry)) pc))) ⌝ }
 {
-    let t = tell(tables::pdata::find(image, pdata, pc));
+    let t = tell(pdata::find(image, pdata, pc));
     let record = t.record;
     *out = record;
     t.refusal

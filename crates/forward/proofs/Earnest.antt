@@ -12,16 +12,16 @@ use borrow.Author.Tests.{ltb-true, eqb-false}
 use Rattle.words.specs.Lent.{Lent, end, wordAt}
 use Rattle.words.specs.declared.Place.the-variants.{Prologue, Body, Epilogue}
 use mathlib.Core.Option.{some}
-use Rattle.unwinding.specs.Answer.{ok, if_then_else_}
+use Rattle.words.specs.Answer.{ok, if_then_else_}
 use Rattle.unwinding.specs.Shape.{Shape}
 use Rattle.unwinding.specs.View.{View}
 use Rattle.codes.specs.declared.Code.{Code}
 use Rattle.codes.specs.declared.Undo.the-variants.{Nothing}
 use Rattle.machine.specs.Registers.{setReg, setSp}
 use Rattle.machine.specs.declared.Regs.{Regs}
-use Rattle.tables.specs.Pdata.{find}
-use Rattle.tables.specs.Record.{shapeOf}
-use Rattle.tables.specs.declared.Entry.{Entry}
+use Rattle.pdata.specs.Pdata.{find}
+use Rattle.record.specs.Record.{shapeOf}
+use Rattle.pdata.specs.declared.Entry.{Entry}
 use Rattle.frame.specs.Frame.{Inputs}
 use Rattle.frame.specs.declared.Unwound.{Unwound}
 use Rattle.frame.proofs.Opened.{opened}
@@ -46,8 +46,7 @@ use Rattle.forward.proofs.Storing.{store, store-outside, word-store}
 use Rattle.forward.proofs.Real.{Solid, set-real, set-sp-real, store-real}
 use Rattle.forward.proofs.Executing.{standing, done-place, after, after-solid}
 use Rattle.forward.proofs.Reaching.{words-same, idle, solid-of, plain-of, stood, less-room, met}
-use Rattle.forward.proofs.Examples.{Tables, inputs, own, shape, views, known, Entered, in-onward, in-used, in-leaving, prologue-run}
-use Rattle.forward.proofs.Examples.{code, up2, up4, nop, pop45lr, pop4511lr, pop4to9lr, spR7, rx7, plain, homes, chain, framed, handles}
+use Rattle.forward.proofs.Examples.{Tables, inputs, own, shape, views, known, Entered, in-onward, in-used, in-leaving, prologue-run, code, up2, up4, nop, pop45lr, pop4511lr, pop4to9lr, spR7, rx7, plain, homes, chain, framed, handles}
 
 -- ---- a register written
 abbrev writes : (x v : ℕ) → State → State

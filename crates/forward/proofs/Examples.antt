@@ -14,7 +14,7 @@ use Rattle.words.specs.Lent.{lent}
 use Rattle.words.proofs.Bytes.{bytesOf}
 use Rattle.words.specs.Units.{halfwords, stackWords}
 use Rattle.words.specs.declared.Place.the-variants.{Prologue, Body, Epilogue}
-use Rattle.unwinding.specs.Answer.{Res, ok, orElse}
+use Rattle.words.specs.Answer.{Res, ok, orElse}
 use Rattle.unwinding.specs.Shape.{Shape}
 use Rattle.unwinding.specs.CodeList.{total}
 use Rattle.unwinding.specs.View.{Exit, View, view}
@@ -24,10 +24,10 @@ use Rattle.codes.specs.Code.{size, codesAt}
 use Rattle.codes.specs.declared.Code.{Code}
 use Rattle.codes.specs.declared.Undo.{Undo}
 use Rattle.codes.specs.declared.Undo.the-variants.{Up, Pop, SpFrom, Vpop, LoadLr, Nothing}
-use Rattle.tables.specs.Pdata.{find}
-use Rattle.tables.specs.Xdata.{fitXdata}
-use Rattle.tables.specs.Record.{shapeOf}
-use Rattle.tables.specs.declared.Entry.{Entry}
+use Rattle.pdata.specs.Pdata.{find}
+use Rattle.xdata.specs.Xdata.{fitXdata}
+use Rattle.record.specs.Record.{shapeOf}
+use Rattle.pdata.specs.declared.Entry.{Entry}
 use Rattle.frame.specs.Frame.{Inputs}
 use Rattle.frame.proofs.Opened.{opened}
 use Rattle.machine.specs.declared.Regs.{Regs}

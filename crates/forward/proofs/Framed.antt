@@ -15,7 +15,7 @@ use Rattle.words.specs.Lent.{Lent, end}
 use Rattle.words.specs.Units.{codeBytes, halfwordBytes}
 use Rattle.words.specs.declared.CodeBytes.{CodeBytes}
 use Rattle.words.specs.declared.Refusal.the-variants.{Reserved}
-use Rattle.unwinding.specs.Answer.{ok, _>>=_, _>>_, need, if_then_else_}
+use Rattle.words.specs.Answer.{ok, _>>=_, _>>_, need, if_then_else_}
 use Rattle.unwinding.specs.CodeList.{Codes}
 use Rattle.unwinding.specs.Shape.{Shape}
 use Rattle.unwinding.specs.View.{Exit, View, view}
@@ -24,13 +24,13 @@ use Rattle.codes.specs.Code.{codesAt}
 use Rattle.codes.specs.declared.Code.{Code}
 use Rattle.machine.specs.Step.{stands}
 use Rattle.machine.specs.declared.Regs.{Regs}
-use Rattle.tables.specs.Pdata.{find}
-use Rattle.tables.specs.Packed.{fields, allowed, PF, EF}
-use Rattle.tables.specs.PackedCodes.{written, writeCodes}
-use Rattle.tables.specs.Record.{lastScope, packedShape, shapeOf}
-use Rattle.tables.specs.Xdata.{fitXdata}
-use Rattle.tables.specs.declared.Entry.{Entry}
-use Rattle.tables.specs.declared.Packed.{Packed}
+use Rattle.pdata.specs.Pdata.{find}
+use Rattle.packed.specs.Packed.{fields, allowed, PF, EF}
+use Rattle.packed_codes.specs.PackedCodes.{written, writeCodes}
+use Rattle.record.specs.Record.{lastScope, packedShape, shapeOf}
+use Rattle.xdata.specs.Xdata.{fitXdata}
+use Rattle.pdata.specs.declared.Entry.{Entry}
+use Rattle.packed.specs.declared.Packed.{Packed}
 use Rattle.packed.proofs.Words.{fields-fit}
 use Rattle.packed_codes.specs.Lists.{prologueCodes, epilogueCodes}
 use Rattle.packed_codes.proofs.Decoding.{holds}
@@ -41,7 +41,7 @@ use Rattle.forward.specs.Exits.{Of, here, later, SavesD, Fit, full, pack
 use Rattle.forward.specs.Stop.{codesOf}
 use Rattle.forward.specs.Demand.{lending, Asked, Finds, Demand3}
 use Rattle.forward.proofs.Back.{Near}
-use Rattle.words.proofs.Laws.{both}
+use Rattle.words.proofs.Tests.{both}
 use Rattle.forward.proofs.Viewed.{Viewed, viewed, read-of}
 use Rattle.forward.proofs.Ready.{Second, ready}
 use Rattle.forward.proofs.Within.{finds-in}

@@ -7,7 +7,6 @@ pub mod Writing
 pub mod Undoing
 pub mod Leaving
 pub mod Scanned
-pub mod Binding
 pub mod Viewed
 pub mod Placed
 pub mod Ready

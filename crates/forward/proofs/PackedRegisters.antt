@@ -7,11 +7,10 @@ use mathlib.Core.Bool.{Bool, true, false, _&&_, _||_}
 use lib.Dec.{T, eqb, eqb→eq}
 use native.Mathlib.Omega.{arith}
 use borrow.Author.Tests.{eqb-true, eqb-false}
-use Rattle.unwinding.specs.Answer.{if_then_else_}
+use Rattle.words.specs.Answer.{if_then_else_}
 use Rattle.codes.specs.Table.{range, lrIf}
-use Rattle.tables.specs.Packed.{Fit}
-use Rattle.tables.specs.PackedCodes.{integers}
-use Rattle.tables.specs.declared.Packed.{Packed}
+use Rattle.packed.specs.Packed.{Fit, integers}
+use Rattle.packed.specs.declared.Packed.{Packed}
 use Rattle.forward.specs.Saving.{listed, upward}
 
 -- ---- a test of every number below another

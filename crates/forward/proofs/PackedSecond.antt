@@ -12,14 +12,14 @@ use borrow.Author.Tests.{not-true, eqb-true, eqb-false, eq-eqb, ne-eqb}
 use Rattle.words.specs.Bits.{bit}
 use Rattle.words.specs.Units.{stackWords}
 use Rattle.words.specs.declared.Halfwords.{Halfwords}
-use Rattle.unwinding.specs.Answer.{if_then_else_}
+use Rattle.words.specs.Answer.{if_then_else_}
 use Rattle.codes.specs.Table.{lrIf, bits16, bits32}
 use Rattle.codes.specs.declared.Code.{Code}
 use Rattle.codes.specs.declared.Undo.{Undo}
 use Rattle.codes.specs.declared.Undo.the-variants.{Up, Pop, Vpop, LoadLr, Nothing}
-use Rattle.tables.specs.Packed.{Fit, allowed, folded, amount, PF, EF}
-use Rattle.tables.specs.PackedCodes.{integers, low}
-use Rattle.tables.specs.declared.Packed.{Packed}
+use Rattle.packed.specs.Packed.{Fit, allowed, folded, amount, PF, EF, integers}
+use Rattle.packed_codes.specs.PackedCodes.{low}
+use Rattle.packed.specs.declared.Packed.{Packed}
 use Rattle.packed_codes.specs.Lists.{only, sizeIf, ups, vpops, pops, nops, homes, prologueCodes, leaving, leaves, epilogueCodes}
 use Rattle.packed_codes.proofs.Decoding.{prologue-is}
 use Rattle.forward.specs.Registers.{Lasting}
@@ -29,7 +29,7 @@ use Rattle.forward.proofs.Ops.{Op, skip, load, Seen, Need}
 use Rattle.forward.proofs.Back.{St, Inv}
 use Rattle.forward.proofs.Flat.{loads, flat, flat-append, loads-append, lasting-range}
 use Rattle.forward.proofs.Fold as Fold
-use Rattle.words.proofs.Laws.{both}
+use Rattle.words.proofs.Tests.{both}
 use Rattle.forward.proofs.Scanned.{fourth}
 use Rattle.forward.proofs.Ready.{Second}
 use Rattle.forward.proofs.PackedRegisters.{folds, names, lrs, clash, registers}

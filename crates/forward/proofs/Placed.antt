@@ -12,7 +12,7 @@ use native.Mathlib.Omega.{arith}
 use borrow.Author.Tests.{lt-ltb, le-ltb, le-leb, lt-leb, ltb-true, ltb-false, leb-true, eq-eqb, ne-eqb}
 use Rattle.words.specs.declared.Place.{Place}
 use Rattle.words.specs.declared.Place.the-variants.{Prologue, Body, Epilogue}
-use Rattle.unwinding.specs.Answer.{ok, if_then_else_}
+use Rattle.words.specs.Answer.{ok, if_then_else_}
 use Rattle.unwinding.specs.CodeList.{total, endOf}
 use Rattle.unwinding.specs.View.{Exit, View, Stretch, stretch, shared, inside, apart, allApart, ascending, fits}
 use Rattle.unwinding.specs.Todo.{always, left, inExit, inExits, todo}
@@ -22,7 +22,7 @@ use Rattle.codes.specs.Code.{size}
 use Rattle.codes.specs.declared.Code.{Code}
 use Rattle.forward.specs.Exits.{Of, here, later, InNone}
 use Rattle.forward.specs.Stop.{codesOf}
-use Rattle.words.proofs.Laws.{both}
+use Rattle.words.proofs.Tests.{both}
 use Rattle.forward.proofs.Scanned.{Positive}
 
 -- at the end of an instruction the codes of what is left are found

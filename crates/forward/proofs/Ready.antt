@@ -7,7 +7,7 @@ use native.Mathlib.Omega.{arith}
 use Rattle.words.specs.Lent.{Lent, end, wordAt}
 use Rattle.words.specs.declared.Place.{Place}
 use Rattle.words.specs.declared.Place.the-variants.{Prologue, Body, Epilogue}
-use Rattle.unwinding.specs.Answer.{ok}
+use Rattle.words.specs.Answer.{ok}
 use Rattle.unwinding.specs.CodeList.{total}
 use Rattle.unwinding.specs.Shape.{Shape}
 use Rattle.unwinding.specs.View.{Exit, View}
@@ -15,7 +15,7 @@ use Rattle.unwinding.specs.Todo.{todo}
 use Rattle.unwinding.specs.declared.Scope.{Scope}
 use Rattle.codes.specs.Code.{size}
 use Rattle.codes.specs.declared.Code.{Code}
-use Rattle.tables.specs.declared.Entry.{Entry}
+use Rattle.pdata.specs.declared.Entry.{Entry}
 use Rattle.forward.specs.Saving.{RX}
 use Rattle.forward.specs.State.{State}
 use Rattle.forward.specs.Exits.{Of, Fit}

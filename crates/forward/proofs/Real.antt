@@ -10,7 +10,7 @@ use native.Mathlib.Omega.{arith}
 use Rattle.words.specs.Bits.{bit}
 use Rattle.words.specs.Lent.{Lent, holds, wordAt}
 use Rattle.words.specs.declared.Refusal.the-variants.{BadStack}
-use Rattle.unwinding.specs.Answer.{ok, if_then_else_}
+use Rattle.words.specs.Answer.{ok, if_then_else_}
 use Rattle.codes.specs.declared.Undo.{Undo}
 use Rattle.codes.specs.declared.Undo.the-variants.{Up, Pop, SpFrom, Vpop, LoadLr, Nothing}
 use Rattle.machine.specs.Registers.{reg, setReg, setD, setSp}
@@ -18,7 +18,7 @@ use Rattle.machine.specs.Step.{load, popReg, popD, pop, vpop, effect}
 use Rattle.machine.specs.declared.Regs.{Regs}
 use Rattle.forward.specs.Registers.{value, width}
 use Rattle.forward.specs.Saving.{bytes}
-use Rattle.forward.proofs.Binding.{bind-ok, need-ok}
+use Rattle.words.proofs.Answers.{bind-ok, need-ok}
 use Rattle.forward.proofs.Storing.{put1, put2, put3, store, storeReg, storeAll}
 
 -- every element is below a bound

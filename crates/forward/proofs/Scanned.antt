@@ -11,7 +11,7 @@ use borrow.Author.Tests.{ne-eqb}
 use Rattle.words.specs.Bits.{bits, bit}
 use Rattle.words.specs.Units.{codeBytes, stackWords}
 use Rattle.words.specs.declared.CodeBytes.{CodeBytes}
-use Rattle.unwinding.specs.Answer.{Res, ok, refuse, _>>=_, if_then_else_}
+use Rattle.words.specs.Answer.{Res, ok, refuse, _>>=_, if_then_else_}
 use Rattle.unwinding.specs.CodeList.{Codes}
 use Rattle.codes.specs.Table.{Row, rows, rowIn, rowOf, range, lrIf}
 use Rattle.codes.specs.Code.{size, value, taken, takeFrom, Scan, follow, scanFrom, scan, codesAt}

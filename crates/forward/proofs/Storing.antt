@@ -11,7 +11,7 @@ use lib.Seq.{getD-set-same, getD-set-other}
 use native.Mathlib.Omega.{arith}
 use Rattle.words.specs.Little.{word32}
 use Rattle.words.specs.Lent.{Lent, end, wordAt}
-use Rattle.unwinding.specs.Answer.{if_then_else_}
+use Rattle.words.specs.Answer.{if_then_else_}
 use Rattle.machine.specs.declared.Regs.{Regs}
 use Rattle.forward.specs.Registers.{value, width, held}
 use Rattle.forward.specs.Saving.{bytes}

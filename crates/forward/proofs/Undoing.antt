@@ -11,7 +11,7 @@ use native.Mathlib.Omega.{arith}
 use borrow.Author.Tests.{eq-eqb, le-leb, lt-ltb, le-ltb}
 use Rattle.words.specs.Bits.{bit}
 use Rattle.words.specs.Lent.{Lent, end, wordAt}
-use Rattle.unwinding.specs.Answer.{Res, ok, _>>=_, if_then_else_}
+use Rattle.words.specs.Answer.{Res, ok, _>>=_, if_then_else_}
 use Rattle.unwinding.specs.CodeList.{run}
 use Rattle.codes.specs.declared.Code.{Code}
 use Rattle.codes.specs.declared.Undo.{Undo}

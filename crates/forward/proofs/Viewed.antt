@@ -6,7 +6,7 @@ use mathlib.Core.Bool.{true}
 use mathlib.Core.List.{List, _∷_}
 use Rattle.words.specs.Units.{codeBytes}
 use Rattle.words.specs.declared.Refusal.the-variants.{BadLayout}
-use Rattle.unwinding.specs.Answer.{ok, if_then_else_}
+use Rattle.words.specs.Answer.{ok, if_then_else_}
 use Rattle.unwinding.specs.CodeList.{Codes, total}
 use Rattle.unwinding.specs.Shape.{Shape, startOf}
 use Rattle.unwinding.specs.View.{Exit, View, fits, exits, view}
@@ -14,7 +14,7 @@ use Rattle.unwinding.specs.declared.Scope.{Scope}
 use Rattle.codes.specs.Code.{size, codesAt}
 use Rattle.codes.specs.declared.Code.{Code}
 use Rattle.forward.specs.Exits.{Of, here, later}
-use Rattle.forward.proofs.Binding.{bind-ok, need-ok}
+use Rattle.words.proofs.Answers.{bind-ok, need-ok}
 
 pub record Viewed (s : Shape) (v : View Code) : Type 0 where
   pub codes : codesAt (s .codes) (codeBytes 0) ≡ ok (v .codes)

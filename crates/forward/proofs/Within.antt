@@ -10,7 +10,7 @@ use borrow.Author.Tests.{le-leb, le-ltb, lt-ltb}
 use Rattle.words.specs.Bits.{even}
 use Rattle.words.specs.Lent.{Lent, end}
 use Rattle.words.specs.declared.Place.{Place}
-use Rattle.unwinding.specs.Answer.{ok}
+use Rattle.words.specs.Answer.{ok}
 use Rattle.unwinding.specs.Shape.{Shape}
 use Rattle.unwinding.specs.View.{View, view}
 use Rattle.codes.specs.Code.{size, codesAt}

@@ -9,7 +9,7 @@ use lib.ListN.{getD, set, length-set}
 use lib.Seq.{getD-set-same, getD-set-other}
 use native.Mathlib.Omega.{arith}
 use borrow.Author.Tests.{eqb-true, eqb-false, ne-eqb, ltb-true, ltb-false}
-use Rattle.unwinding.specs.Answer.{if_then_else_}
+use Rattle.words.specs.Answer.{if_then_else_}
 use Rattle.machine.specs.Registers.{reg, setReg, setD}
 use Rattle.machine.specs.declared.Regs.{Regs}
 use Rattle.forward.specs.Registers.{value}

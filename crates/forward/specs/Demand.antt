@@ -9,17 +9,17 @@ use Rattle.words.specs.Bits.{even}
 use Rattle.words.specs.Lent.{Lent, end}
 use Rattle.words.specs.declared.Place.{Place}
 use Rattle.words.specs.declared.Verdict.the-variants.{Given}
-use Rattle.unwinding.specs.Answer.{ok}
+use Rattle.words.specs.Answer.{ok}
 use Rattle.unwinding.specs.Shape.{Shape}
 use Rattle.unwinding.specs.View as Views
 use Rattle.codes.specs.Code.{size, codesAt}
 use Rattle.codes.specs.declared.Code.{Code}
 use Rattle.machine.specs.Registers.{reg}
 use Rattle.machine.specs.declared.Regs.{Regs}
-use Rattle.tables.specs.Pdata.{find}
-use Rattle.tables.specs.Xdata.{fitXdata}
-use Rattle.tables.specs.Record.{shapeOf}
-use Rattle.tables.specs.declared.Entry.{Entry}
+use Rattle.pdata.specs.Pdata.{find}
+use Rattle.xdata.specs.Xdata.{fitXdata}
+use Rattle.record.specs.Record.{shapeOf}
+use Rattle.pdata.specs.declared.Entry.{Entry}
 use Rattle.frame.specs.Frame.{Inputs, fitStack}
 use Rattle.frame.specs.declared.Unwound.{Unwound}
 use Rattle.forward.specs.State.{Whole, State, Outside}

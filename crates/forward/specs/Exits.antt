@@ -8,9 +8,9 @@ use Rattle.words.specs.Units.{codeBytes}
 use Rattle.unwinding.specs.View.{Exit}
 use Rattle.unwinding.specs.declared.Scope.{Scope}
 use Rattle.codes.specs.declared.Code.{Code}
-use Rattle.tables.specs.Packed.{fields, PF, EF}
-use Rattle.tables.specs.declared.Entry.{Entry}
-use Rattle.tables.specs.declared.Packed.{Packed}
+use Rattle.packed.specs.Packed.{fields, PF, EF}
+use Rattle.pdata.specs.declared.Entry.{Entry}
+use Rattle.packed.specs.declared.Packed.{Packed}
 
 -- the epilogue is the one that the scope lists
 pub data Of (sc : Scope) (ex : Exit Code) : List Scope → List (Exit Code) → Type 0 where

@@ -11,7 +11,7 @@ use Rattle.words.specs.Bits.{even}
 use Rattle.words.specs.Lent.{end}
 use Rattle.words.specs.declared.Place.{Place}
 use Rattle.words.specs.declared.Place.the-variants.{Prologue, Body, Epilogue}
-use Rattle.unwinding.specs.Answer.{ok}
+use Rattle.words.specs.Answer.{ok}
 use Rattle.unwinding.specs.CodeList.{total}
 use Rattle.unwinding.specs.Shape.{Shape}
 use Rattle.unwinding.specs.View.{Exit, View, view}
@@ -21,10 +21,10 @@ use Rattle.codes.specs.Code.{size, codesAt}
 use Rattle.codes.specs.declared.Code.{Code}
 use Rattle.codes.specs.declared.Undo.{Undo}
 use Rattle.codes.specs.declared.Undo.the-variants.{Up, Pop, SpFrom, Vpop, LoadLr, Nothing}
-use Rattle.tables.specs.Pdata.{find}
-use Rattle.tables.specs.Xdata.{fitXdata}
-use Rattle.tables.specs.Record.{shapeOf}
-use Rattle.tables.specs.declared.Entry.{Entry}
+use Rattle.pdata.specs.Pdata.{find}
+use Rattle.xdata.specs.Xdata.{fitXdata}
+use Rattle.record.specs.Record.{shapeOf}
+use Rattle.pdata.specs.declared.Entry.{Entry}
 use Rattle.frame.specs.Frame.{Inputs, fitStack}
 use Rattle.forward.specs.Registers.{Lasting}
 use Rattle.forward.specs.Saving.{falls, Saved, RX}

@@ -13,7 +13,7 @@ use Rattle.unwinding.specs.Todo.{always}
 use Rattle.unwinding.specs.declared.Scope.{Scope}
 use Rattle.codes.specs.Code.{size}
 use Rattle.codes.specs.declared.Code.{Code}
-use Rattle.tables.specs.declared.Entry.{Entry}
+use Rattle.pdata.specs.declared.Entry.{Entry}
 use Rattle.forward.specs.Saving.{RX}
 use Rattle.forward.specs.State.{State}
 use Rattle.forward.specs.Prologue.{Done}

@@ -1,11 +1,11 @@
 -- What every unwound frame keeps: SP does not fall, and at most 1,020 codes run.
 -- Assumes nothing.
 use Prim.Native.Nat.{ℕ, _+_, _-_, _≤_}
-use mathlib.Core.Path.{_≡_, refl, sym, ap, _∙_}
-use mathlib.Core.List.{List, [], _∷_, _++_}
+use mathlib.Core.Path.{_≡_, sym, ap, _∙_}
+use mathlib.Core.List.{List, _∷_, _++_, []}
 use mathlib.Core.Bool.{Bool, true, false, _&&_}
 use mathlib.Core.Option.{Option, none, some}
-use lib.ListN.{length, take, drop, replicate, length-take}
+use lib.ListN.{length, drop, replicate, length-take}
 use lib.Dec.{leb, ltb, eqb}
 use native.Mathlib.Omega.{arith}
 use borrow.Author.Tests.{leb-true}
@@ -14,40 +14,30 @@ use Rattle.words.specs.Lent.{Lent}
 use Rattle.words.specs.Units.{codeWordBytes, halfwordBytes}
 use Rattle.words.specs.declared.Place.{Place}
 use Rattle.words.specs.declared.CodeBytes.{CodeBytes}
-use Rattle.words.specs.declared.Refusal.{Refusal}
 use Rattle.words.specs.declared.Refusal.the-variants.{UnfitInput, BadStack, SpFell, Reserved}
 use Rattle.words.specs.declared.Verdict.{Verdict}
 use Rattle.words.specs.declared.Verdict.the-variants.{Given, Refused}
-use Rattle.unwinding.specs.Answer.{Res, ok, refuse, _>>=_, _>>_, need, maybe, if_then_else_}
+use Rattle.words.specs.Answer.{Res, ok, _>>=_, _>>_, need, maybe, if_then_else_}
 use Rattle.unwinding.specs.Shape.{Shape}
-use Rattle.unwinding.specs.declared.Scope.{Scope}
+use Rattle.words.proofs.Answers.{bind-ok, need-ok}
 use Rattle.codes.specs.Code.{scan}
 use Rattle.codes.proofs.Sizes.{scan-length}
 use Rattle.machine.specs.declared.Regs.{Regs}
 use Rattle.machine.specs.Step.{stands}
 use Rattle.machine.specs.Run.{runAt}
-use Rattle.tables.specs.declared.Entry.{Entry}
-use Rattle.tables.specs.declared.Head.{Head}
-use Rattle.tables.specs.declared.CodesOf.{CodesOf}
-use Rattle.tables.specs.Packed.{fields, allowed}
-use Rattle.tables.specs.PackedCodes.{firstList, secondList, written, writeCodes}
-use Rattle.tables.specs.Pdata.{find}
-use Rattle.tables.specs.Xdata.{fitXdata, scopeCount, codesOffset, headAt}
-use Rattle.tables.specs.Record.{lastScope, scopesAt, fullOf, fullShape, packedShape, shapeOf}
-use Rattle.tables.proofs.Heads.{head-small}
+use Rattle.pdata.specs.declared.Entry.{Entry}
+use Rattle.packed_codes.specs.declared.CodesOf.{CodesOf}
+use Rattle.packed.specs.Packed.{fields, allowed}
+use Rattle.packed_codes.specs.PackedCodes.{firstList, secondList, written, writeCodes}
+use Rattle.pdata.specs.Pdata.{find}
+use Rattle.xdata.specs.Xdata.{fitXdata, scopeCount, codesOffset, headAt}
+use Rattle.record.specs.Record.{lastScope, fullOf, fullShape, packedShape, shapeOf}
+use Rattle.xdata.specs.Scopes.{scopesAt}
+use Rattle.xdata.proofs.Heads.{head-small}
 use Rattle.frame.specs.Frame.{Inputs, Caller, fitStack, returned, leafOf, uncovered, within, byRecord, afterFind, frameOf}
 use Rattle.frame.specs.Look.{spotOf}
-use Rattle.frame.specs.FromSpot.{finish, ranFrom, fromBy}
+use Rattle.frame.specs.FromSpot.{finish, fromBy}
 use Rattle.frame.proofs.Within.{within-spot}
-
--- where an answer came of two steps, both answered
-went : {A B : Type 0} (x : Res A) (f : A → Res B) (b : B) → (x >>= f) ≡ ok b → (a : A) × (x ≡ ok a) × (f a ≡ ok b)
-went (ok a) f b h = (a, refl, h)
-went (refuse r) f b h = absurd (let z : _≡_ {A = ℕ} 0 1 = cc in omega arith)
-
-passed : {B : Type 0} (t : Bool) (r : Refusal) (x : Res B) (b : B) → (need t r >> x) ≡ ok b → (t ≡ true) × (x ≡ ok b)
-passed true r x b h = (refl, h)
-passed false r x b h = absurd (let z : _≡_ {A = ℕ} 0 1 = cc in omega arith)
 
 same : {A : Type 0} (a b : A) → ok a ≡ ok b → a ≡ b
 same a b h = cc
@@ -56,16 +46,16 @@ same a b h = cc
 few-full : (x : Lent) (a : ℕ) (s : Shape) → fullShape x a ≡ ok s → length (s .codes) ≤ 1020
 unfolding fullShape
 few-full x a s q =
-    let u = went (headAt x a) (λ h. scopesAt x (a + h .bytes) (scopeCount h) >>= λ l. ok (fullOf x a h l)) s q in
+    let u = bind-ok (headAt x a) (λ h. scopesAt x (a + h .bytes) (scopeCount h) >>= λ l. ok (fullOf x a h l)) s q in
     let h = u .0 in
-    let v = went (scopesAt x (a + h .bytes) (scopeCount h)) (λ l. ok (fullOf x a h l)) s (u .2) in
+    let v = bind-ok (scopesAt x (a + h .bytes) (scopeCount h)) (λ l. ok (fullOf x a h l)) s (u .2) in
     let e : length (fullOf x a h (v .0) .codes) ≡ length (s .codes) = ap (λ y. length (y .codes)) (same (fullOf x a h (v .0)) s (v .2)) in
     omega (arith, e, length-take (codeWordBytes (h .codewords) .0) (drop (a + codesOffset h - x .base) (x .bytes)), head-small x a h (u .1) .codewords)
 
 few-written : (w : ℕ) (c : CodesOf) → writeCodes w ≡ ok c → length (c .bytes) ≤ 1020
 unfolding writeCodes
 few-written w c q =
-    let v = passed (allowed (fields w)) Reserved (ok (written (fields w))) c q in
+    let v = need-ok (allowed (fields w)) Reserved (ok (written (fields w))) c q in
     let e : length (written (fields w) .bytes) ≡ length (c .bytes) = ap (λ y. length (y .bytes)) (same (written (fields w)) c (v .1)) in
     omega (arith, e, length-take 16 (firstList (fields w) ++ secondList (fields w) ++ replicate 16 0))
 
@@ -76,7 +66,7 @@ packedBy w c =
 few-packed : (w : ℕ) (s : Shape) → packedShape w ≡ ok s → length (s .codes) ≤ 1020
 unfolding packedShape packedBy
 few-packed w s q =
-    let u = went (writeCodes w) (packedBy w) s q in
+    let u = bind-ok (writeCodes w) (packedBy w) s q in
     let e : length (u .0 .bytes) ≡ length (s .codes) = ap (λ y. length (y .codes)) (same _ s (u .2)) in
     omega (arith, e, few-written w (u .0) (u .1))
 
@@ -102,9 +92,9 @@ kept-from :
     (k : Lent) (s : List ℕ) (hd : ℕ) (g : Regs) (p : Place) (i : CodeBytes) (v : Verdict) (c : Caller) → length s ≤ 1020 → fromBy k s hd g p i v ≡ ok c → Kept g c
 kept-from k s hd g p i (Refused r) c n q = absurd (let z : _≡_ {A = ℕ} 0 1 = cc in omega arith)
 kept-from k s hd g p i Given c n q =
-    let u = went (runAt k s i g) (finish hd g p (length (scan s i .list))) c q in
+    let u = bind-ok (runAt k s i g) (finish hd g p (length (scan s i .list))) c q in
     let d : Caller = record { regs = returned (u .0); place = p; handler = hd; codes = length (scan s i .list) } in
-    let w = passed (leb (g .sp) (u .0 .sp)) SpFell (ok d) c (u .2) in
+    let w = need-ok (leb (g .sp) (u .0 .sp)) SpFell (ok d) c (u .2) in
     let e : d ≡ c = same d c (w .1) in
     record { sp = omega (arith, leb-true (g .sp) (u .0 .sp) (w .0), ap (λ y. y .regs .sp) e); codes = omega (arith, scan-length s i, ap (λ y. y .codes) e) }
 
@@ -116,7 +106,7 @@ kept-within k s o g c n q =
 kept-record : (first : Bool) (t : Inputs) (e : Entry) (g : Regs) (c : Caller) → byRecord first t e g ≡ ok c → Kept g c
 unfolding byRecord
 kept-record first t e g c q =
-    let u = went (shapeOf (t .xdata) e) (λ s. if ltb (even (g .pc) - t .image - e .start) (s .span) then within (t .stack) s (even (g .pc) - t .image - e .start) g else uncovered first g) c q in
+    let u = bind-ok (shapeOf (t .xdata) e) (λ s. if ltb (even (g .pc) - t .image - e .start) (s .span) then within (t .stack) s (even (g .pc) - t .image - e .start) g else uncovered first g) c q in
     go (u .0) (ltb (even (g .pc) - t .image - e .start) (u .0 .span)) (few-codes (t .xdata) e (u .0) (u .1)) (u .2)
   where
     go :
@@ -127,8 +117,8 @@ kept-record first t e g c q =
 
 kept-found : (first : Bool) (t : Inputs) (g : Regs) (x : Res (Option Entry)) (c : Caller) → afterFind first t g x ≡ ok c → Kept g c
 kept-found first t g x c q =
-    let u = went x (λ e. need (stands (t .stack) (g .sp)) BadStack >> maybe e (uncovered first g) (λ e. byRecord first t e g)) c q in
-    let w = passed (stands (t .stack) (g .sp)) BadStack (maybe (u .0) (uncovered first g) (λ e. byRecord first t e g)) c (u .2) in
+    let u = bind-ok x (λ e. need (stands (t .stack) (g .sp)) BadStack >> maybe e (uncovered first g) (λ e. byRecord first t e g)) c q in
+    let w = need-ok (stands (t .stack) (g .sp)) BadStack (maybe (u .0) (uncovered first g) (λ e. byRecord first t e g)) c (u .2) in
     go (u .0) (w .1)
   where
     go : (e : Option Entry) → maybe e (uncovered first g) (λ e. byRecord first t e g) ≡ ok c → Kept g c
@@ -138,7 +128,7 @@ kept-found first t g x c q =
 kept : (first : Bool) (t : Inputs) (g : Regs) (c : Caller) → frameOf first t g ≡ ok c → Kept g c
 unfolding frameOf
 kept first t g c q =
-    let w = passed (fitStack (t .stack) && fitXdata (t .xdata)) UnfitInput (afterFind first t g (find (t .image) (t .pdata) (g .pc))) c q in
+    let w = need-ok (fitStack (t .stack) && fitXdata (t .xdata)) UnfitInput (afterFind first t g (find (t .image) (t .pdata) (g .pc))) c q in
     kept-found first t g (find (t .image) (t .pdata) (g .pc)) c (w .1)
 
 pub frame-sp : (first : Bool) (t : Inputs) (g : Regs) (c : Caller) → frameOf first t g ≡ ok c → g .sp ≤ c .regs .sp

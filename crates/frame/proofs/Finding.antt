@@ -10,14 +10,14 @@ use lib.Dec.{eqb}
 use native.Mathlib.Omega.{arith}
 use Rattle.words.specs.declared.Refusal.{Refusal}
 use Rattle.words.specs.declared.Refusal.the-variants.{UnfitInput, BadStack}
-use Rattle.unwinding.specs.Answer.{Res, ok, refuse}
+use Rattle.words.specs.Answer.{Res, ok, refuse}
 use Rattle.machine.specs.declared.Regs.{Regs}
 use Rattle.machine.specs.Step.{stands}
-use Rattle.tables.specs.declared.Entry.{Entry}
-use Rattle.tables.specs.declared.Found.the-variants.{Record, Nothing, Refused}
-use Rattle.tables.specs.Pdata.{find, found}
-use Rattle.tables.specs.Xdata.{fitXdata}
-use Rattle.tables.proofs.Finding.{find-unfit}
+use Rattle.pdata.specs.declared.Entry.{Entry}
+use Rattle.pdata.specs.declared.Found.the-variants.{Record, Nothing, Refused}
+use Rattle.pdata.specs.Pdata.{find, found}
+use Rattle.xdata.specs.Xdata.{fitXdata}
+use Rattle.pdata.proofs.Finding.{find-unfit}
 use Rattle.frame.specs.Frame.{Inputs, fitStack, uncovered, byRecord, afterFind, frameOf, checked}
 
 pub found-refused : (x : Res (Option Entry)) (r : Refusal) → found x ≡ Refused r → x ≡ refuse r

@@ -6,7 +6,7 @@ use mathlib.Core.List.{List, [], _∷_}
 use mathlib.Core.Bool.{Bool}
 use native.Mathlib.Omega.{arith}
 use Rattle.words.specs.declared.Refusal.{Refusal}
-use Rattle.unwinding.specs.Answer.{Res, ok, refuse, either, _>>=_, if_then_else_}
+use Rattle.words.specs.Answer.{Res, ok, refuse, either, _>>=_, if_then_else_}
 use Rattle.unwinding.specs.CodeList.{Codes, total}
 use Rattle.unwinding.specs.Shape.{startOf}
 use Rattle.unwinding.specs.declared.Scope.{Scope}
@@ -15,9 +15,9 @@ use Rattle.codes.specs.declared.Scanned.the-variants.{Ends, Refused}
 use Rattle.codes.specs.Code.{size, scan, codesAt}
 use Rattle.codes.specs.Reading.{scanned}
 use Rattle.codes.proofs.Sizes.{Measured, scanned-ends, scanned-refused, codes-end, codes-refused}
-use Rattle.tables.proofs.Shapes.{scopes-next}
-use Rattle.tables.specs.Plan.{scopeIn, scopesFrom}
-use Rattle.tables.specs.declared.Scopes.{Scopes}
+use Rattle.record.proofs.Shapes.{scopes-next}
+use Rattle.record.specs.as_coded.Plan.{scopeIn, scopesFrom}
+use Rattle.record.specs.declared.Scopes.{Scopes}
 use Rattle.words.specs.Units.{codeBytes, halfwords, halfwordBytes}
 use Rattle.frame.specs.Look.{wayOf, wayRead, see, lookFrom, unseen, noSpot, inSeen, spotOf}
 use Rattle.frame.specs.declared.Way.{Way}

@@ -7,7 +7,7 @@ use lib.ListN.{replicate}
 use Rattle.words.specs.Lent.{Lent}
 use Rattle.words.specs.Refusals.{verdictNumber}
 use Rattle.words.specs.declared.Place.the-variants.{Leaf, Prologue}
-use Rattle.unwinding.specs.Answer.{Res, ok, verdict}
+use Rattle.words.specs.Answer.{Res, ok, verdict}
 use Rattle.machine.specs.declared.Regs.{Regs}
 use Rattle.frame.specs.Frame.{Inputs, Caller, frame, unwound}
 use Rattle.words.proofs.Bytes.{bytesOf}

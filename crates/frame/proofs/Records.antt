@@ -11,16 +11,16 @@ use Rattle.words.specs.Bits.{bits, even}
 use Rattle.words.specs.declared.Refusal.{Refusal}
 use Rattle.words.specs.declared.Verdict.the-variants.{Given, Refused}
 use Rattle.words.specs.declared.Refusal.the-variants.{Reserved}
-use Rattle.unwinding.specs.Answer.{Res, ok, refuse, _>>=_, _>>_, need}
+use Rattle.words.specs.Answer.{Res, ok, refuse, _>>=_, _>>_, need}
 use Rattle.machine.specs.declared.Regs.{Regs}
-use Rattle.tables.specs.declared.Entry.{Entry}
-use Rattle.tables.specs.declared.FullOf.{FullOf}
-use Rattle.tables.specs.declared.PackedOf.{PackedOf}
-use Rattle.tables.specs.Packed.{fields, allowed}
-use Rattle.tables.specs.PackedCodes.{firstList, secondList, written, writeCodes}
-use Rattle.tables.specs.Plan.{fullPlan, fullAnswer, shapeBy, packedBy, packedPlan, packedAnswer}
-use Rattle.tables.specs.Record.{fullShape, packedShape, shapeOf}
-use Rattle.tables.proofs.Shapes.{full-shape, packed-shape, shape-full, shape-packed}
+use Rattle.pdata.specs.declared.Entry.{Entry}
+use Rattle.record.specs.declared.FullOf.{FullOf}
+use Rattle.record.specs.declared.PackedOf.{PackedOf}
+use Rattle.packed.specs.Packed.{fields, allowed}
+use Rattle.packed_codes.specs.PackedCodes.{firstList, secondList, written, writeCodes}
+use Rattle.record.specs.as_coded.Plan.{fullPlan, fullAnswer, shapeBy, packedBy, packedPlan, packedAnswer}
+use Rattle.record.specs.Record.{fullShape, packedShape, shapeOf}
+use Rattle.record.proofs.Shapes.{full-shape, packed-shape, shape-full, shape-packed}
 use Rattle.frame.specs.Frame.{Inputs, inputs, Caller, byRecord}
 use Rattle.frame.specs.FromSpot.{inShape, byFull, byPacked}
 

@@ -14,12 +14,12 @@ use Rattle.words.specs.declared.Refusal.{Refusal}
 use Rattle.words.specs.declared.Refusal.the-variants.{SpFell}
 use Rattle.words.specs.declared.Verdict.{Verdict}
 use Rattle.words.specs.declared.Verdict.the-variants.{Given, Refused}
-use Rattle.unwinding.specs.Answer.{Res, ok, refuse, _>>=_, _>>_, need}
+use Rattle.words.specs.Answer.{Res, ok, refuse, _>>=_, _>>_, need}
 use Rattle.unwinding.specs.CodeList.{run}
 use Rattle.unwinding.specs.Shape.{Shape}
 use Rattle.unwinding.specs.View.{View, view}
 use Rattle.unwinding.specs.Todo.{Todo, todo}
-use Rattle.unwinding.proofs.Running.{bind-assoc}
+use Rattle.words.proofs.Answers.{bind-assoc}
 use Rattle.codes.specs.declared.Code.{Code}
 use Rattle.codes.specs.Code.{size, scan, codesAt}
 use Rattle.machine.specs.declared.Regs.{Regs}

@@ -14,7 +14,7 @@ use Rattle.words.specs.declared.Place.{Place}
 use Rattle.words.specs.declared.Place.the-variants.{Leaf}
 use Rattle.words.specs.declared.Refusal.the-variants.{UnfitInput, BadStack, SpFell, NoRecord}
 use Rattle.words.specs.declared.Verdict.the-variants.{Given, Refused}
-use Rattle.unwinding.specs.Answer.{Res, ok, refuse, _>>=_, _>>_, need, if_then_else_, maybe}
+use Rattle.words.specs.Answer.{Res, ok, refuse, _>>=_, _>>_, need, if_then_else_, maybe}
 use Rattle.unwinding.specs.CodeList.{run}
 use Rattle.unwinding.specs.Shape.{Shape}
 use Rattle.unwinding.specs.View.{ascending, view}
@@ -23,10 +23,10 @@ use Rattle.codes.specs.Code.{size, codesAt}
 use Rattle.machine.specs.declared.Regs.{Regs}
 use Rattle.machine.specs.Registers.{setPc}
 use Rattle.machine.specs.Step.{stands, step}
-use Rattle.tables.specs.declared.Entry.{Entry}
-use Rattle.tables.specs.Pdata.{entries, find}
-use Rattle.tables.specs.Xdata.{fitXdata}
-use Rattle.tables.specs.Record.{shapeOf}
+use Rattle.pdata.specs.declared.Entry.{Entry}
+use Rattle.pdata.specs.Pdata.{entries, find}
+use Rattle.xdata.specs.Xdata.{fitXdata}
+use Rattle.record.specs.Record.{shapeOf}
 use Rattle.frame.specs.declared.Unwound.{Unwound}
 use Rattle.frame.specs.declared.Checked.{Checked}
 

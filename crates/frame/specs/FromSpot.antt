@@ -11,12 +11,12 @@ use Rattle.words.specs.declared.Place.{Place}
 use Rattle.words.specs.declared.Refusal.the-variants.{SpFell}
 use Rattle.words.specs.declared.Verdict.{Verdict}
 use Rattle.words.specs.declared.Verdict.the-variants.{Given, Refused}
-use Rattle.unwinding.specs.Answer.{Res, ok, refuse, _>>=_, _>>_, need, if_then_else_}
+use Rattle.words.specs.Answer.{Res, ok, refuse, _>>=_, _>>_, need, if_then_else_}
 use Rattle.unwinding.specs.Shape.{Shape}
 use Rattle.codes.specs.Code.{scan}
 use Rattle.machine.specs.declared.Regs.{Regs}
 use Rattle.machine.specs.Run.{runAt}
-use Rattle.tables.specs.Record.{fullShape, packedShape}
+use Rattle.record.specs.Record.{fullShape, packedShape}
 use Rattle.frame.specs.Frame.{Caller, returned, uncovered, within}
 use Rattle.frame.specs.declared.Spot.{Spot}
 

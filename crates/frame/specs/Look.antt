@@ -12,7 +12,7 @@ use Rattle.words.specs.declared.Refusal.{Refusal}
 use Rattle.words.specs.declared.Refusal.the-variants.{BadLayout, InsideInstruction, Conditional}
 use Rattle.words.specs.declared.Verdict.the-variants.{Given, Refused}
 use Rattle.words.specs.Units.{codeBytes}
-use Rattle.unwinding.specs.Answer.{Res, either, if_then_else_}
+use Rattle.words.specs.Answer.{Res, either, if_then_else_}
 use Rattle.unwinding.specs.CodeList.{Codes, total}
 use Rattle.unwinding.specs.Shape.{startOf}
 use Rattle.unwinding.specs.Todo.{always}

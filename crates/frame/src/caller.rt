@@ -2,8 +2,8 @@
 use super::Unwound;
 use super::place;
 use machine::Regs;
-use tables::Entry;
-use tables::Plan;
+use pdata::Entry;
+use record::Plan;
 use words::CodeBytes;
 use words::Place;
 use words::Refusal;
@@ -14,8 +14,8 @@ ghost use mathlib.Core.List.{List};
 ghost use lib.ListN.{length};
 ghost use Rattle.words.specs.Bits.{even};
 ghost use Rattle.words.specs.Lent.{lent};
-ghost use Rattle.unwinding.specs.Answer.{refuse};
-ghost use Rattle.tables.specs.Plan.{shapeBy};
+ghost use Rattle.words.specs.Answer.{refuse};
+ghost use Rattle.record.specs.as_coded.Plan.{shapeBy};
 ghost use Rattle.frame.specs.Frame.{returned as returnedOf, leafOf, uncovered as uncoveredOf, within, byRecord, inputs, unwound};
 ghost use Rattle.frame.specs.FromSpot.{ranFrom, inShape, byFull, byPacked};
 
@@ -144,7 +144,7 @@ fn by_full(
 ) -> Unwound
     ensures { λ r. ⌜ r ≡ unwound g (byFull first (lent rva (now (xdata .entry))) at (lent base (now (stack .entry))) o g) ⌝ }
 {
-    let full = xdata::full(rva, xdata, at);
+    let full = record::full(rva, xdata, at);
     let verdict = full.verdict;
     match verdict {
         Verdict::Refused(why) => refused(g, why),
@@ -170,7 +170,7 @@ fn by_packed(
 ) -> Unwound
     ensures { λ r. ⌜ r ≡ unwound g (byPacked first word (lent base (now (stack .entry))) o g) ⌝ }
 {
-    let packed = packed_codes::plan(word);
+    let packed = record::packed(word);
     let verdict = packed.verdict;
     match verdict {
         Verdict::Refused(why) => refused(g, why),

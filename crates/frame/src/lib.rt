@@ -1,8 +1,8 @@
 // One frame: the checks of its inputs in document 01's order, the record of its pc, the place, and the caller. It knows neither lists
 // nor files.
 use machine::Regs;
-use tables::Found;
-use tables::Sound;
+use pdata::Found;
+use pdata::Sound;
 
 mod caller; // the caller by the record found
 mod place; // where an offset stands in a record
@@ -17,9 +17,9 @@ ghost use mathlib.Core.List.{List};
 ghost use mathlib.Core.Option.{Option};
 ghost use Prim.Native.Nat.{ℕ};
 ghost use Rattle.words.specs.Lent.{lent};
-ghost use Rattle.unwinding.specs.Answer.{Res};
-ghost use Rattle.tables.specs.declared.Entry.{Entry};
-ghost use Rattle.tables.specs.Pdata.{found as foundOf};
+ghost use Rattle.words.specs.Answer.{Res};
+ghost use Rattle.pdata.specs.declared.Entry.{Entry};
+ghost use Rattle.pdata.specs.Pdata.{found as foundOf};
 ghost use Rattle.frame.specs.Frame.{inputs, fitStack, checked, unwound, afterFind, frameOf, frame};
 
 // One frame's answer. A refusal gives back the given registers, 0 codes, handler 0 and place leaf.
@@ -112,7 +112,7 @@ fn all_three(a: bool, b: bool, c: bool) -> bool
 pub fn check(pdata: &[u8], rva: u32, xdata: &[u8], base: u32, stack: &[u8]) -> Checked
     ensures { λ r. ⌜ r ≡ checked (inputs 0 (now (pdata .entry)) rva (now (xdata .entry)) base (now (stack .entry))) ⌝ }
 {
-    let sound = tables::pdata::check(pdata);
+    let sound = pdata::check(pdata);
     Checked {
         fit: all_three(fit_stack(base, stack), xdata::fit(rva, xdata), sound.whole),
         sorted: sound.ascending,
@@ -168,7 +168,7 @@ pub fn frame_of(
             whole: true,
             ascending: c.sorted,
         };
-        let found = tables::pdata::find_in(sound, image, pdata, g.pc);
+        let found = pdata::find_in(sound, image, pdata, g.pc);
         return after_find(first, found, image, rva, xdata, base, stack, g);
     }
     caller::refused(g, Refusal::UnfitInput)

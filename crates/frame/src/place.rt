@@ -8,7 +8,7 @@ use super::Way;
 use super::WayOf;
 use codes::Scanned;
 use codes::Skipped;
-use tables::Plan;
+use record::Plan;
 use unwinding::Scope;
 use unwinding::Start;
 use words::CodeBytes;
@@ -23,12 +23,12 @@ ghost use mathlib.Core.List.{List};
 ghost use lib.ListN.{length};
 ghost use lib.Dec.{leb, ltb};
 ghost use Rattle.words.specs.Units.{codeBytes, halfwords, halfwordBytes};
-ghost use Rattle.unwinding.specs.Answer.{if_then_else_};
+ghost use Rattle.words.specs.Answer.{if_then_else_};
 ghost use Rattle.unwinding.specs.Shape.{startOf};
 ghost use Rattle.codes.specs.Code.{codesAt, scan as scanOf};
 ghost use Rattle.codes.specs.Reading.{scanned};
 ghost use Rattle.codes.specs.Skip.{skipAt};
-ghost use Rattle.tables.specs.Plan.{scopesFrom};
+ghost use Rattle.record.specs.as_coded.Plan.{scopesFrom};
 ghost use Rattle.frame.specs.Look.{wayRead, wayEnd, inLine, hitOf, see as seeOf, lookFrom, bySkip, inHit, inSeen, unseen as unseenOf, spotOf, noSpot as noSpotOf};
 
 // Where an epilogue of this size starts in a function of this length.
@@ -178,7 +178,7 @@ fn look(codes: &[u8], plan: Plan, xdata: &[u8], o: u64, seen: Seen, first: Scann
     let mut at = CodeBytes(0);
     let mut k: usize = 0;
     while k < n {
-        let e = xdata::scope(plan, xdata, k);
+        let e = record::scope(plan, xdata, k);
         let index = e.index;
         last = rescan(codes, index, at, last);
         at = index;

@@ -6,7 +6,7 @@ use native.Mathlib.Omega.{arith}
 use Rattle.words.specs.declared.Refusal.{Refusal}
 use Rattle.words.specs.declared.Verdict.{Verdict}
 use Rattle.words.specs.declared.Verdict.the-variants.{Given, Refused}
-use Rattle.unwinding.specs.Answer.{Res, ok, refuse, _>>=_}
+use Rattle.words.specs.Answer.{Res, ok, refuse, _>>=_}
 use Rattle.machine.specs.Run.{ran}
 use Rattle.machine.specs.Answers.{loaded, loadedTwo, came, Counted}
 use Rattle.machine.specs.declared.Loaded.the-variants as Loads

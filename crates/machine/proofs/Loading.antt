@@ -6,10 +6,10 @@ use mathlib.Core.Bool.{Bool, true, false, _&&_}
 use lib.Dec.{leb}
 use native.Mathlib.Omega.{arith}
 use borrow.Author.Tests.{leb-true}
-use Rattle.words.proofs.Laws.{both}
+use Rattle.words.proofs.Tests.{both}
 use Rattle.words.specs.Lent.{Lent, end, holds, wordAt}
 use Rattle.words.specs.declared.Refusal.the-variants.{BadStack}
-use Rattle.unwinding.specs.Answer.{ok, need, _>>_}
+use Rattle.words.specs.Answer.{ok, need, _>>_}
 use Rattle.machine.specs.Step.{load}
 
 pub load-inside : (k : Lent) (a w : ℕ) → load k a ≡ ok w → (k .base ≤ a) × (a + 4 ≤ end k)

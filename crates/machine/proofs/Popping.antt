@@ -13,7 +13,7 @@ use Rattle.words.specs.Lent.{Lent}
 use Rattle.words.specs.Units.{stackBytes}
 use Rattle.words.specs.declared.StackWords.{StackWords}
 use Rattle.words.specs.declared.Refusal.{Refusal}
-use Rattle.unwinding.specs.Answer.{Res, ok, refuse, _>>=_, if_then_else_}
+use Rattle.words.specs.Answer.{Res, ok, refuse, _>>=_, if_then_else_}
 use Rattle.codes.specs.declared.Undo.the-variants.{LoadLr}
 use Rattle.machine.specs.Step.{load, popReg, popD, pop, vpop, effect}
 use Rattle.machine.specs.Answers.{loadedTwo, regs}

@@ -11,9 +11,10 @@ use Rattle.words.specs.declared.CodeBytes.{CodeBytes}
 use Rattle.words.specs.declared.Halfwords.{Halfwords}
 use Rattle.words.specs.declared.Refusal.{Refusal}
 use Rattle.words.specs.declared.Refusal.the-variants.{BadCodes}
-use Rattle.unwinding.specs.Answer.{Res, ok, refuse, _>>=_, _>>_}
+use Rattle.words.specs.Answer.{Res, ok, refuse, _>>=_, _>>_}
 use Rattle.unwinding.specs.CodeList.{Codes, run}
-use Rattle.unwinding.proofs.Running.{bind-assoc, bind-same, run-empty, run-step}
+use Rattle.words.proofs.Answers.{bind-assoc, bind-same}
+use Rattle.unwinding.proofs.Running.{run-empty, run-step}
 use Rattle.codes.specs.Table.{rowOf}
 use Rattle.codes.specs.Code.{takeFrom, takeAt, Scan, follow, scanFrom, scan, codesAt}
 use Rattle.codes.specs.declared.Code.{Code}

@@ -7,7 +7,7 @@ use lib.Dec.{leb, ltb, eqb}
 use borrow.Author.Tests.{leb-true, ltb-true, eqb-true}
 use Rattle.words.specs.Lent.{Lent, end}
 use Rattle.machine.specs.Step.{stands}
-use Rattle.words.proofs.Laws.{both}
+use Rattle.words.proofs.Tests.{both}
 
 pub record Stands (k : Lent) (a : ℕ) : Type 0 where
   pub aligned : a % 4 ≡ 0

@@ -4,7 +4,7 @@ use mathlib.Core.Path.{_≡_}
 use mathlib.Core.List.{List}
 use Rattle.words.specs.declared.Verdict.{Verdict}
 use Rattle.words.specs.declared.Verdict.the-variants.{Given, Refused}
-use Rattle.unwinding.specs.Answer.{Res, ok, refuse}
+use Rattle.words.specs.Answer.{Res, ok, refuse}
 use Rattle.machine.specs.declared.Regs.{Regs}
 use Rattle.machine.specs.declared.Loaded.{Loaded}
 use Rattle.machine.specs.declared.Loaded.the-variants as Loads

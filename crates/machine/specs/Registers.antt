@@ -2,7 +2,7 @@
 use Prim.Native.Nat.{ℕ}
 use lib.ListN.{getD, set}
 use lib.Dec.{eqb}
-use Rattle.unwinding.specs.Answer.{if_then_else_}
+use Rattle.words.specs.Answer.{if_then_else_}
 use Rattle.machine.specs.declared.Regs.{Regs}
 
 abbrev pub reg : Regs → ℕ → ℕ

@@ -5,7 +5,7 @@ use lib.ListN.{length}
 use Rattle.words.specs.Lent.{Lent}
 use Rattle.words.specs.declared.CodeBytes.{CodeBytes}
 use Rattle.words.specs.declared.Verdict.the-variants.{Given, Refused}
-use Rattle.unwinding.specs.Answer.{Res, ok, refuse, _>>=_, _>>_}
+use Rattle.words.specs.Answer.{Res, ok, refuse, _>>=_, _>>_}
 use Rattle.unwinding.specs.CodeList.{run}
 use Rattle.codes.specs.Code.{scan}
 use Rattle.machine.specs.Step.{step}

@@ -6,7 +6,7 @@ use Rattle.words.specs.Bits.{bit}
 use Rattle.words.specs.Lent.{Lent, end, holds, wordAt}
 use Rattle.words.specs.Units.{stackBytes}
 use Rattle.words.specs.declared.Refusal.the-variants.{BadStack}
-use Rattle.unwinding.specs.Answer.{Res, ok, _>>=_, _>>_, need, if_then_else_}
+use Rattle.words.specs.Answer.{Res, ok, _>>=_, _>>_, need, if_then_else_}
 use Rattle.codes.specs.declared.Code.{Code}
 use Rattle.codes.specs.declared.Undo.{Undo}
 use Rattle.codes.specs.declared.Undo.the-variants.{Up, Pop, SpFrom, Vpop, LoadLr, Nothing}

@@ -13,7 +13,7 @@ ghost use lib.Dec.{eqb};
 ghost use lib.ListN.{length, getD, set};
 ghost use Rattle.words.specs.Bits.{bit};
 ghost use Rattle.words.specs.Lent.{lent};
-ghost use Rattle.unwinding.specs.Answer.{refuse, if_then_else_};
+ghost use Rattle.words.specs.Answer.{refuse, if_then_else_};
 ghost use Rattle.codes.specs.Code.{scan};
 ghost use Rattle.machine.specs.Step.{stands as standsOf, load as loadOf, pop as popOf, vpop as vpopOf, effect as effectOf, step as stepOf};
 ghost use Rattle.machine.specs.Answers.{loaded, loadedTwo, regs, came, Counted};

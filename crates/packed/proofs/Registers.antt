@@ -9,12 +9,11 @@ use lib.Pow.{pow-mono, pow-pos}
 use lib.Dec.{eqb}
 use native.Mathlib.Nat.{zero-add}
 use native.Mathlib.Omega.{arith}
-use Rattle.unwinding.specs.Answer.{if_then_else_}
+use Rattle.words.specs.Answer.{if_then_else_}
 use Rattle.codes.specs.Table.{range}
 use Rattle.codes.proofs.Entries.{tab, tab-from}
-use Rattle.tables.specs.Packed.{Fit}
-use Rattle.tables.specs.PackedCodes.{integers}
-use Rattle.tables.specs.declared.Packed.{Packed}
+use Rattle.packed.specs.Packed.{Fit, integers}
+use Rattle.packed.specs.declared.Packed.{Packed}
 
 tab-at : (g : ℕ → ℕ) (n k : ℕ) → k < n → getD (tab g 0 n) k 0 ≡ g k
 tab-at g n k h = tab-from 0 g 0 n k h ∙ ap g (zero-add k)

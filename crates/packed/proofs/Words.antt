@@ -7,11 +7,11 @@ use lib.Dec.{ltb}
 use native.Mathlib.Omega.{arith}
 use native.Mathlib.Nat.{add-mul-div-left, div-eq-of-lt, add-mul-mod-self-left, mod-eq-of-lt, zero-add, mod-add-div, div-div-eq-div-mul, div-one}
 use borrow.Author.Tests.{ltb-true, lt-ltb}
-use Rattle.words.proofs.Laws.{both}
+use Rattle.words.proofs.Tests.{both}
 use Rattle.words.specs.declared.Refusal.the-variants.{Reserved}
-use Rattle.unwinding.specs.Answer.{ok, refuse}
-use Rattle.tables.specs.Packed.{Fit, fields, fieldsFit, allowed, wordOf, writeWord}
-use Rattle.tables.specs.declared.Packed.{Packed}
+use Rattle.words.specs.Answer.{ok, refuse}
+use Rattle.packed.specs.Packed.{Fit, fields, fieldsFit, allowed, wordOf, writeWord}
+use Rattle.packed.specs.declared.Packed.{Packed}
 
 -- where the test holds each field is below what its bits hold
 pub fit-true : (p : Packed) → fieldsFit p ≡ true → Fit p

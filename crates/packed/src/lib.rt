@@ -1,19 +1,35 @@
 // Packed words: their fields, the word's writer, the stack adjustment and the registers that they stand for. It knows neither registers'
 // values nor the stack.
-use tables::Packed;
-use tables::WordOf;
 use words::Halfwords;
 use words::Refusal;
 use words::StackWords;
 use words::Verdict;
 ghost use mathlib.Core.Path.{_≡_};
 ghost use mathlib.Core.Bool.{_&&_, _||_};
-ghost use Prim.Native.Nat.{_+_, _-_, _%_, _≤_, _<_};
+ghost use Prim.Native.Nat.{_+_, _-_, _%_, _≤_, _<_, _*_, _/_};
 ghost use lib.Dec.{ltb, eqb};
 ghost use Rattle.codes.specs.Table.{range};
-ghost use Rattle.unwinding.specs.Answer.{if_then_else_};
-ghost use Rattle.tables.specs.Packed.{Fit, fields as fieldsOf, fieldsFit, allowed as allowedOf, wordOf, writeWord, wordAnswer, folded as foldedOf, amount as amountOf, PF, EF};
-ghost use Rattle.tables.specs.PackedCodes.{integers as integersOf};
+ghost use Rattle.words.specs.Answer.{if_then_else_};
+ghost use Rattle.packed.specs.Packed.{Fit, fields as fieldsOf, fieldsFit, allowed as allowedOf, wordOf, writeWord, wordAnswer, folded as foldedOf, amount as amountOf, PF, EF, integers as integersOf};
+
+// The fields of a packed word, as document 01 names them: Flag, length/2, Ret, H, Reg, R, L, C, Stack Adjust.
+pub struct Packed {
+    pub flag: u32,
+    pub length: Halfwords,
+    pub ret: u32,
+    pub h: u32,
+    pub reg: u32,
+    pub r: u32,
+    pub l: u32,
+    pub c: u32,
+    pub adjust: u32,
+}
+
+// A packed word; 0 where it is refused.
+pub struct WordOf {
+    pub verdict: Verdict,
+    pub word: u32,
+}
 
 // The fields of a packed word.
 pub fn fields(word: u32) -> Packed

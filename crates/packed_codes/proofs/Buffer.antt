@@ -8,7 +8,7 @@ use lib.ListN.{length, take, replicate, set, length-append}
 use lib.Seq.{set-append-seam, append-snoc, take-append-add}
 use native.Mathlib.Omega.{arith}
 use borrow.Author.Tests.{lt-ltb, le-ltb}
-use Rattle.tables.specs.PackedCodes.{when}
+use Rattle.packed_codes.specs.PackedCodes.{when}
 use Rattle.packed_codes.specs.Out.{blank, putOf, puts}
 use Rattle.packed_codes.specs.declared.Out.{Out}
 

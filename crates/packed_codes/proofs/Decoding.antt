@@ -13,8 +13,8 @@ use borrow.Author.Tests.{ltb-true, eqb-true, eqb-false}
 use Rattle.words.specs.Units.{codeBytes, halfwords, halfwordBytes}
 use Rattle.words.specs.declared.Halfwords.{Halfwords}
 use Rattle.words.specs.declared.Refusal.the-variants.{BadCodes}
-use Rattle.words.proofs.Laws.{both}
-use Rattle.unwinding.specs.Answer.{Res, ok, refuse, _>>=_}
+use Rattle.words.proofs.Tests.{both}
+use Rattle.words.specs.Answer.{Res, ok, refuse, _>>=_}
 use Rattle.unwinding.specs.CodeList.{Codes}
 use Rattle.codes.specs.Table.{rows, rowIn}
 use Rattle.codes.specs.Code.{Scan, scanFrom, codesAt}
@@ -22,9 +22,9 @@ use Rattle.codes.specs.declared.Code.{Code}
 use Rattle.codes.specs.declared.Undo.{Undo}
 use Rattle.codes.specs.declared.Undo.the-variants.{Up}
 use Rattle.codes.proofs.Scanning.{scan-at}
-use Rattle.tables.specs.Packed.{Fit, amount, PF, EF}
-use Rattle.tables.specs.PackedCodes.{when, integers, upCode, vpopCode, popCode, low, firstList, leave, secondList, written}
-use Rattle.tables.specs.declared.Packed.{Packed}
+use Rattle.packed.specs.Packed.{Fit, amount, PF, EF, integers}
+use Rattle.packed_codes.specs.PackedCodes.{when, upCode, vpopCode, popCode, low, firstList, leave, secondList, written}
+use Rattle.packed.specs.declared.Packed.{Packed}
 use Rattle.packed.proofs.Registers.{integers-small}
 use Rattle.packed_codes.specs.Lists.{only, sizeIf, ups, vpops, pops, nops, homes, prologueCodes, leaving, epilogueCodes, Stands, Holds}
 use Rattle.packed_codes.proofs.Buffer.{holding-bytes}

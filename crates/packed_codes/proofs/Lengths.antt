@@ -8,10 +8,10 @@ use lib.ListN.{length, length-append}
 use lib.Dec.{leb, eqb}
 use native.Mathlib.Omega.{arith}
 use Rattle.words.specs.declared.StackWords.{StackWords}
-use Rattle.unwinding.specs.Answer.{if_then_else_}
-use Rattle.tables.specs.Packed.{amount, PF, EF}
-use Rattle.tables.specs.PackedCodes.{when, integers, upCode, vpopCode, upTo, dForm, popCode, low, firstList, leave, secondList}
-use Rattle.tables.specs.declared.Packed.{Packed}
+use Rattle.words.specs.Answer.{if_then_else_}
+use Rattle.packed.specs.Packed.{amount, PF, EF, integers}
+use Rattle.packed_codes.specs.PackedCodes.{when, upCode, vpopCode, upTo, dForm, popCode, low, firstList, leave, secondList}
+use Rattle.packed.specs.declared.Packed.{Packed}
 
 -- at most n bytes
 record Short (l : List ℕ) (n : ℕ) : Type 0 where

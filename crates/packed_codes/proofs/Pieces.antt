@@ -9,10 +9,10 @@ use lib.Dec.{eqb}
 use native.Mathlib.Omega.{arith}
 use borrow.Author.Tests.{ltb-true, eq-eqb, ne-eqb, le-leb, lt-leb}
 use Rattle.words.specs.Units.{stackWords}
-use Rattle.unwinding.specs.Answer.{if_then_else_}
-use Rattle.tables.specs.Packed.{Fit, amount, folded, PF, EF}
-use Rattle.tables.specs.PackedCodes.{when, integers, upCode, vpopCode, dForm, popSized, popCode, low, firstList, leave, secondList}
-use Rattle.tables.specs.declared.Packed.{Packed}
+use Rattle.words.specs.Answer.{if_then_else_}
+use Rattle.packed.specs.Packed.{Fit, amount, folded, PF, EF, integers}
+use Rattle.packed_codes.specs.PackedCodes.{when, upCode, vpopCode, dForm, popSized, popCode, low, firstList, leave, secondList}
+use Rattle.packed.specs.declared.Packed.{Packed}
 use Rattle.packed_codes.specs.Out.{putOf, puts, topOf}
 use Rattle.packed_codes.specs.declared.Out.{Out}
 use Rattle.packed_codes.specs.declared.Top.the-variants.{Register, Other}

@@ -12,14 +12,14 @@ use borrow.Author.Tests.{leb-true, le-leb, lt-leb, eqb-true}
 use Rattle.words.specs.Bits.{bits}
 use Rattle.words.specs.Units.{stackWords, halfwordBytes}
 use Rattle.words.specs.declared.Halfwords.{Halfwords}
-use Rattle.unwinding.specs.Answer.{ok, if_then_else_}
+use Rattle.words.specs.Answer.{ok, if_then_else_}
 use Rattle.codes.specs.Table.{Row, row, rows, rowIn, rowOf, range, lrIf, bits16, bits32}
 use Rattle.codes.specs.Code.{value, takeFrom, Scan, scanFrom}
 use Rattle.codes.specs.declared.Code.{Code}
 use Rattle.codes.specs.declared.Meaning.the-variants.{Does, End}
 use Rattle.codes.specs.declared.Undo.{Undo}
 use Rattle.codes.specs.declared.Undo.the-variants.{Up, Pop, Vpop, LoadLr, Nothing}
-use Rattle.tables.specs.PackedCodes.{when, upCode, upTo, dForm, popCode}
+use Rattle.packed_codes.specs.PackedCodes.{when, upCode, upTo, dForm, popCode}
 use Rattle.packed_codes.specs.Lists.{only, sizeIf, pops}
 
 -- codes before what a scan found

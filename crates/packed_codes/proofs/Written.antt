@@ -3,16 +3,18 @@
 use Prim.Native.Nat.{ℕ, _+_, _-_, _≤_}
 use mathlib.Core.Path.{_≡_, refl, sym, ap, _∙_}
 use mathlib.Core.List.{[], _++_}
-use mathlib.Core.Bool.{true, false}
+use mathlib.Core.Bool.{Bool, true, false}
 use lib.ListN.{length, take, replicate, length-append}
 use native.Mathlib.Omega.{arith}
 use Rattle.words.specs.Units.{codeBytes}
 use Rattle.words.specs.declared.Refusal.the-variants.{Reserved}
-use Rattle.words.specs.declared.Verdict.the-variants.{Given}
-use Rattle.unwinding.specs.Answer.{ok, refuse}
-use Rattle.tables.specs.Packed.{fields, allowed}
-use Rattle.tables.specs.PackedCodes.{firstList, secondList, written, writeCodes}
-use Rattle.tables.specs.declared.Packed.{Packed}
+use Rattle.words.specs.declared.Refusal.{Refusal}
+use Rattle.words.specs.declared.Verdict.the-variants.{Given, Refused}
+use Rattle.words.specs.Answer.{ok, refuse}
+use Rattle.packed.specs.Packed.{fields, allowed}
+use Rattle.packed_codes.specs.PackedCodes.{firstList, secondList, written, writeCodes, codesAnswer}
+use Rattle.packed.specs.declared.Packed.{Packed}
+use Rattle.packed_codes.specs.declared.CodesOf.{CodesOf}
 use Rattle.packed_codes.specs.Out.{blank, puts}
 use Rattle.packed_codes.specs.declared.Out.{Out}
 use Rattle.packed_codes.proofs.Buffer.{holding, puts-holding, holding-bytes}
@@ -25,6 +27,22 @@ codes-refused w h = rw h refl
 pub codes-given : (w : ℕ) → allowed (fields w) ≡ true → writeCodes w ≡ ok (written (fields w))
 unfolding writeCodes
 codes-given w h = rw h refl
+
+-- the writer's answer by its verdict
+module _ (w : ℕ) (c : CodesOf) (is : c ≡ codesAnswer (writeCodes w)) where
+  pub answer-given : c .verdict ≡ Given → writeCodes w ≡ ok c
+  answer-given v = go (allowed (fields w)) refl
+    where
+      go : (t : Bool) → allowed (fields w) ≡ t → writeCodes w ≡ ok c
+      go true t = let e = codes-given w t in e ∙ ap ok (sym (is ∙ ap codesAnswer e))
+      go false t = absurd (let z : _≡_ {A = ℕ} 0 1 = cc (is ∙ ap codesAnswer (codes-refused w t)) in omega arith)
+
+  pub answer-refused : (why : Refusal) → c .verdict ≡ Refused why → writeCodes w ≡ refuse why
+  answer-refused why v = go (allowed (fields w)) refl
+    where
+      go : (t : Bool) → allowed (fields w) ≡ t → writeCodes w ≡ refuse why
+      go true t = absurd (let z : _≡_ {A = ℕ} 0 1 = cc (is ∙ ap codesAnswer (codes-given w t)) in omega arith)
+      go false t = let q : Reserved ≡ why = cc (is ∙ ap codesAnswer (codes-refused w t)) in codes-refused w t ∙ ap refuse q
 
 -- both lists on a blank
 module _ (p : Packed) (one two : Out) (e : one ≡ puts blank (firstList p)) (f : two ≡ puts one (secondList p)) where

@@ -1,2 +1,3 @@
+pub mod PackedCodes
 pub mod Out
 pub mod Lists

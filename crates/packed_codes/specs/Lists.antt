@@ -3,24 +3,24 @@
 use Prim.Native.Nat.{ℕ, _+_, _-_}
 use mathlib.Core.Path.{_≡_}
 use mathlib.Core.Logic.{_≢_}
-use mathlib.Core.List.{List, [], _∷_, _++_, reverse}
+use mathlib.Core.List.{List, _∷_, _++_, reverse, []}
 use mathlib.Core.Bool.{Bool, true, false, _&&_, not}
 use lib.ListN.{length, take, drop, replicate}
 use lib.Dec.{leb, eqb}
 use Rattle.words.specs.Units.{codeBytes, stackWords, halfwordBytes}
 use Rattle.words.specs.declared.CodeBytes.{CodeBytes}
 use Rattle.words.specs.declared.Halfwords.{Halfwords}
-use Rattle.unwinding.specs.Answer.{ok, if_then_else_}
+use Rattle.words.specs.Answer.{ok, if_then_else_}
 use Rattle.unwinding.specs.CodeList.{Codes}
 use Rattle.codes.specs.Table.{lrIf, bits16, bits32}
 use Rattle.codes.specs.Code.{codesAt}
 use Rattle.codes.specs.declared.Code.{Code}
 use Rattle.codes.specs.declared.Undo.{Undo}
 use Rattle.codes.specs.declared.Undo.the-variants.{Up, Pop, Vpop, LoadLr, Nothing}
-use Rattle.tables.specs.Packed.{amount, PF, EF}
-use Rattle.tables.specs.PackedCodes.{integers, low}
-use Rattle.tables.specs.declared.Packed.{Packed}
-use Rattle.tables.specs.declared.CodesOf.{CodesOf}
+use Rattle.packed.specs.Packed.{amount, PF, EF, integers}
+use Rattle.packed_codes.specs.PackedCodes.{low}
+use Rattle.packed.specs.declared.Packed.{Packed}
+use Rattle.packed_codes.specs.declared.CodesOf.{CodesOf}
 
 -- an instruction, where there is one
 abbrev pub only : Bool → Undo → Halfwords → List Code

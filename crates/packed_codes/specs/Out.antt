@@ -1,10 +1,10 @@
 -- Sixteen code bytes, written from the first on.
 use Prim.Native.Nat.{ℕ, _+_}
-use mathlib.Core.List.{List, [], _∷_}
+use mathlib.Core.List.{List, _∷_, []}
 use mathlib.Core.Option.{Option, none, some}
 use lib.ListN.{set, replicate}
 use lib.Dec.{ltb}
-use Rattle.unwinding.specs.Answer.{if_then_else_}
+use Rattle.words.specs.Answer.{if_then_else_}
 use Rattle.packed_codes.specs.declared.Out.{Out}
 use Rattle.packed_codes.specs.declared.Top.{Top}
 use Rattle.packed_codes.specs.declared.Top.the-variants.{Register, Other}

@@ -1,31 +1,32 @@
 // The code bytes that a packed word stands for: the prologue's codes in reverse, and the epilogue's. It knows neither registers' values
 // nor the stack.
+use packed::Packed;
 use packed::allowed;
 use packed::amount;
 use packed::ef;
 use packed::fields;
 use packed::integers;
 use packed::pf;
-use tables::CodesOf;
-use tables::Packed;
-use tables::PackedOf;
-use tables::Plan;
-use tables::Scopes;
 use words::CodeBytes;
 use words::Refusal;
 use words::StackWords;
 use words::Verdict;
 ghost use mathlib.Core.Path.{_≡_};
-ghost use mathlib.Core.List.{[], _∷_, _++_};
+ghost use mathlib.Core.List.{_∷_, _++_, []};
 ghost use mathlib.Core.Bool.{true, false, _&&_, not};
-ghost use Prim.Native.Nat.{_+_, _<_};
+ghost use Prim.Native.Nat.{_+_, _<_, _-_, _*_, _/_, _%_};
 ghost use lib.Dec.{eqb};
-ghost use Rattle.tables.specs.Packed.{Fit, fields as fieldsOf, amount as amountOf};
-ghost use Rattle.tables.specs.PackedCodes.{when, upCode, vpopCode, upTo, popSized, popCode, low, firstList, leave as leaveOf, secondList, written, writeCodes, codesAnswer};
-ghost use Rattle.tables.specs.Plan.{packedPlanBy, packedBy, packedPlan, packedAnswer};
-ghost use Rattle.unwinding.specs.Answer.{refuse, if_then_else_};
-ghost use Rattle.words.specs.declared.Refusal.the-variants.{Reserved};
+ghost use Rattle.packed.specs.Packed.{Fit, fields as fieldsOf, amount as amountOf};
+ghost use Rattle.packed_codes.specs.PackedCodes.{when, upCode, vpopCode, upTo, popSized, popCode, low, firstList, leave as leaveOf, secondList, written, writeCodes, codesAnswer};
 ghost use Rattle.packed_codes.specs.Out.{putOf, puts, topOf};
+
+// A packed record's code bytes, first list, second list, the rest 0, and both lengths; all 0 where it is refused.
+pub struct CodesOf {
+    pub verdict: Verdict,
+    pub bytes: [u8; 16],
+    pub first: CodeBytes,
+    pub second: CodeBytes,
+}
 
 // Code bytes that are being written, and how many there are.
 struct Out {
@@ -278,68 +279,4 @@ pub fn write_codes(word: u32) -> CodesOf
         first: CodeBytes(0),
         second: CodeBytes(0),
     }
-}
-
-// No epilogue for Ret=3, else one.
-fn epilogues(ret: u32) -> usize
-    ensures { λ r. ⌜ r ≡ (if eqb ret 3 then 0 else 1) ⌝ }
-{
-    if ret == 3 {
-        return 0;
-    }
-    1
-}
-
-// The plan of a packed record whose second list has this index.
-fn plan_by(p: Packed, first: CodeBytes) -> Plan
-    requires { ⌜ Fit p ⌝ }
-    ensures { λ r. ⌜ r ≡ packedPlanBy p first ⌝ }
-{
-    Plan {
-        span: words::halfword_bytes(p.length) as u32,
-        fragment: p.flag == 2,
-        count: epilogues(p.ret),
-        scopes: Scopes::Ending(first),
-        handler: 0,
-    }
-}
-
-// The record of an allowed word.
-fn packed_by(word: u32) -> PackedOf
-    ensures { λ r. ⌜ r ≡ packedBy word (written (fieldsOf word)) ⌝ }
-{
-    let c = both_lists(word);
-    let bytes = c.bytes;
-    PackedOf {
-        verdict: Verdict::Given,
-        plan: plan_by(fields(word), c.first),
-        bytes: bytes,
-    }
-}
-
-// A refused record.
-fn no_plan() -> PackedOf
-    ensures { λ r. ⌜ r ≡ packedAnswer (refuse Reserved) ⌝ }
-{
-    PackedOf {
-        verdict: Verdict::Refused(Refusal::Reserved),
-        plan: Plan {
-            span: 0,
-            fragment: false,
-            count: 0,
-            scopes: Scopes::Listed(0),
-            handler: 0,
-        },
-        bytes: [0u8; 16],
-    }
-}
-
-// The packed record of a word: its plan and its code bytes.
-pub fn plan(word: u32) -> PackedOf
-    ensures { λ r. ⌜ r ≡ packedAnswer (packedPlan word) ⌝ }
-{
-    if allowed(fields(word)) {
-        return packed_by(word);
-    }
-    no_plan()
 }

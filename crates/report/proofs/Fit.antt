@@ -5,7 +5,7 @@ use mathlib.Core.Path.{_≡_, refl}
 use mathlib.Core.List.{List, [], _∷_, _++_}
 use lib.ListN.{replicate}
 use Rattle.words.specs.declared.Refusal.the-variants.{UnfitReport}
-use Rattle.unwinding.specs.Answer.{refuse}
+use Rattle.words.specs.Answer.{refuse}
 use Rattle.report.specs.Report.{report, mark}
 use Rattle.text.specs.Text.{text}
 use Rattle.report.specs.Listing.{listing}

@@ -12,7 +12,7 @@ use native.Mathlib.Omega.{arith}
 use Rattle.words.specs.declared.Refusal.the-variants.{UnfitReport}
 use Rattle.words.specs.declared.Refusal.{Refusal}
 use Rattle.words.specs.declared.Verdict.the-variants.{Given, Refused}
-use Rattle.unwinding.specs.Answer.{Res, ok, refuse, _>>_, need, either}
+use Rattle.words.specs.Answer.{Res, ok, refuse, _>>_, need, either}
 use Rattle.report.specs.declared.Parts.{Parts}
 use Rattle.report.specs.Report.{Report, report, same, mark, headBytes, pdataBytes, xdataBytes, stackSize, inputsOf, regsOf}
 use Rattle.report.specs.Parts.{parts, partsOf, noParts, inputsIn, reportFrom, reportIn, Lie}

@@ -6,7 +6,7 @@ use lib.Dec.{eqb}
 use lib.ListN.{length}
 use native.Mathlib.Omega.{arith}
 use Rattle.words.specs.Bits.{even}
-use Rattle.unwinding.specs.Answer.{Res, ok, refuse, either, if_then_else_}
+use Rattle.words.specs.Answer.{Res, ok, refuse, either, if_then_else_}
 use Rattle.machine.specs.declared.Regs.{Regs}
 use Rattle.frame.specs.Frame.{Inputs, Caller}
 use Rattle.walking.specs.Walk.{Trail, nextFrame, stopped, listed, walkFrom}

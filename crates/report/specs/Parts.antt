@@ -7,7 +7,7 @@ use Rattle.words.specs.Little.{word32}
 use Rattle.words.specs.declared.Refusal.{Refusal}
 use Rattle.words.specs.declared.Verdict.{Verdict}
 use Rattle.words.specs.declared.Verdict.the-variants.{Given, Refused}
-use Rattle.unwinding.specs.Answer.{Res, ok, refuse, either}
+use Rattle.words.specs.Answer.{Res, ok, refuse, either}
 use Rattle.machine.specs.declared.Regs.{Regs}
 use Rattle.frame.specs.Frame.{Inputs, inputs}
 use Rattle.report.specs.declared.Parts.{Parts}

@@ -7,7 +7,7 @@ use lib.ListN.{length, take, drop}
 use lib.Dec.{leb, eqb}
 use Rattle.words.specs.Little.{word32, word64}
 use Rattle.words.specs.declared.Refusal.the-variants.{UnfitReport}
-use Rattle.unwinding.specs.Answer.{Res, ok, _>>=_, _>>_, need}
+use Rattle.words.specs.Answer.{Res, ok, _>>=_, _>>_, need}
 use Rattle.machine.specs.declared.Regs.{Regs}
 use Rattle.frame.specs.Frame.{Inputs}
 

@@ -11,7 +11,7 @@ use borrow.Author.Tests.{lt-ltb, le-ltb, ltb-false}
 use native.Mathlib.Nat.{pow-suc}
 use native.Mathlib.Numerals.{sub-one}
 use native.Mathlib.Omega.{arith}
-use Rattle.unwinding.specs.Answer.{if_then_else_}
+use Rattle.words.specs.Answer.{if_then_else_}
 use Rattle.text.specs.Text.{digit, digits, decimalLength, decimal, hex8, numbered}
 
 -- what follows the digits

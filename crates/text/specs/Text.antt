@@ -5,7 +5,7 @@ use Prim.Native.String.{String}
 use Prim.Native.String as Native
 use mathlib.Core.List.{List, [], _∷_, _++_}
 use lib.Dec.{ltb}
-use Rattle.unwinding.specs.Answer.{if_then_else_}
+use Rattle.words.specs.Answer.{if_then_else_}
 
 abbrev pub text : String → List ℕ
 text Native.[] = []

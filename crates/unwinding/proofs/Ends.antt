@@ -1,15 +1,15 @@
 -- The end of a code list whose sizes add up to an amount: what is found is such an end; at each instruction boundary one is found, and
 -- where sizes are above 0 it is the only one.
 -- Assumes nothing.
-use Prim.Native.Nat.{ℕ, _+_, _≤_, _<_}
+use Prim.Native.Nat.{ℕ, _+_, _<_}
 use mathlib.Core.Path.{_≡_, refl, ap}
-use mathlib.Core.List.{List, [], _∷_, _++_}
+use mathlib.Core.List.{List, _∷_, _++_, []}
 use mathlib.Core.Bool.{Bool, true, false}
-use mathlib.Core.Option.{Option, none, some}
+use mathlib.Core.Option.{none, some}
 use lib.Dec.{eqb}
 use native.Mathlib.Omega.{arith}
 use borrow.Author.Tests.{eqb-true, eq-eqb, ne-eqb}
-use Rattle.unwinding.specs.Answer.{if_then_else_}
+use Rattle.words.specs.Answer.{if_then_else_}
 use Rattle.unwinding.specs.CodeList.{total, endOf}
 
 module _ {C : Type 0} (size : C → ℕ) where

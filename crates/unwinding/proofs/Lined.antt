@@ -1,14 +1,15 @@
 -- Refusal 7 in one pass: stretches from the lowest start up, each not before `floor`, inside the function, and, unless it is empty, not
 -- before `reach`, the end of the last one that was not empty. This is what comparing all pairs comes to.
 -- Assumes nothing.
-use Prim.Native.Nat.{ℕ, suc, _+_, _≤_, _<_, min, max}
-use mathlib.Core.Path.{_≡_, refl, sym, ap, _∙_, subst}
-use mathlib.Core.List.{List, [], _∷_, map}
+use Prim.Native.Nat.{ℕ, _+_, _≤_, _<_, min, max}
+use mathlib.Core.Path.{_≡_, refl, sym, ap, subst}
+use mathlib.Core.List.{List, _∷_, map, []}
 use mathlib.Core.Bool.{Bool, true, false, _&&_, _||_, not}
-use lib.Dec.{T, leb, ltb, eqb, leb→le, le→leb, ltb→lt, lt→ltb, eqb→eq, not-T, T-not}
+use lib.Dec.{T, leb, ltb, leb→le, le→leb, ltb→lt, lt→ltb, not-T, T-not}
 use native.Mathlib.Omega.{arith}
-use borrow.Author.Tests.{leb-true, leb-false, eqb-true, eqb-false, ltb-true, ltb-false, le-ltb, lt-ltb}
-use Rattle.unwinding.specs.Answer.{if_then_else_}
+use borrow.Author.Tests.{leb-true, leb-false}
+use Rattle.words.specs.Answer.{if_then_else_}
+use Rattle.words.proofs.Tests.{T-both as both, T-and as and, T-same as same}
 use Rattle.unwinding.specs.View.{Exit, Stretch, stretch, shared, inside, apart, allApart, ascending, fits}
 
 abbrev empty : Stretch → Bool
@@ -24,21 +25,6 @@ next span f r a = leb f (a .from) && leb (a .to) span && (empty a || leb r (a .f
 abbrev pub lined : (span floor reach : ℕ) → List Stretch → Bool
 lined span f r [] = true
 lined span f r (a ∷ rest) = next span f r a && lined span (a .from + 1) (reachOf r a) rest
-
--- ---- facts of tests
-both : (a b : Bool) → T (a && b) → T a × T b
-both true b t = (tt, t)
-both false b t = absurd t
-
-and : (a b : Bool) → T a → T b → T (a && b)
-and true b s t = t
-and false b s t = s
-
-same : (a b : Bool) → (T a → T b) → (T b → T a) → a ≡ b
-same true true f g = refl
-same true false f g = absurd (f tt)
-same false true f g = absurd (g tt)
-same false false f g = refl
 
 -- ---- what each part says of a stretch and those after it
 -- no start is below f, and they ascend

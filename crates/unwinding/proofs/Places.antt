@@ -3,19 +3,16 @@
 -- Assumes nothing.
 use Prim.Native.Nat.{ℕ, _+_, _-_, _≤_, _<_}
 use mathlib.Core.Path.{_≡_, refl}
-use mathlib.Core.List.{List, [], _∷_, _++_}
-use mathlib.Core.Option.{some}
-use lib.Dec.{leb, ltb, eqb}
-use native.Mathlib.Omega.{arith}
+use mathlib.Core.List.{List, _∷_, _++_, []}
 use borrow.Author.Tests.{lt-ltb, le-ltb, le-leb, lt-leb, eq-eqb}
 use Rattle.words.specs.declared.CodeBytes.{CodeBytes}
 use Rattle.words.specs.declared.Place.{Place}
 use Rattle.words.specs.declared.Place.the-variants.{Prologue, Body, Epilogue}
-use Rattle.unwinding.specs.Answer.{Res, ok, refuse, _>>=_, _>>_, need, if_then_else_, maybe}
-use Rattle.unwinding.specs.CodeList.{Codes, total, endOf}
+use Rattle.words.specs.Answer.{Res, ok, _>>=_}
+use Rattle.unwinding.specs.CodeList.{Codes, total}
 use Rattle.unwinding.specs.Shape.{Shape, startOf}
 use Rattle.unwinding.specs.View.{Exit, View, exits}
-use Rattle.unwinding.specs.Todo.{Todo, always, left, inExit, inExits, todo}
+use Rattle.unwinding.specs.Todo.{always, left, inExit, inExits, todo}
 use Rattle.unwinding.specs.declared.Scope.{Scope}
 use Rattle.unwinding.proofs.Ends.{endOf-boundary}
 

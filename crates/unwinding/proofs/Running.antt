@@ -2,21 +2,10 @@
 -- matter, and the joined list refuses where either part does at its turn.
 -- Assumes nothing.
 use mathlib.Core.Path.{_≡_, refl, ap}
-use mathlib.Core.List.{List, [], _∷_, _++_, append-assoc}
+use mathlib.Core.List.{List, _∷_, _++_, append-assoc, []}
 use Rattle.words.specs.declared.Refusal.{Refusal}
-use Rattle.unwinding.specs.Answer.{Res, ok, refuse, _>>=_}
+use Rattle.words.specs.Answer.{Res, ok, refuse, _>>=_}
 use Rattle.unwinding.specs.CodeList.{run}
-
--- an answer goes on through two steps as through one
-pub bind-assoc :
-    {A B C : Type 0} (x : Res A) (f : A → Res B) (g : B → Res C) → (x >>= f >>= g) ≡ (x >>= λ a. f a >>= g)
-bind-assoc (ok a) f g = refl
-bind-assoc (refuse r) f g = refl
-
-pub bind-same :
-    {A B : Type 0} (x : Res A) (f g : A → Res B) → ((a : A) → f a ≡ g a) → (x >>= f) ≡ (x >>= g)
-bind-same (ok a) f g h = h a
-bind-same (refuse r) f g h = refl
 
 module _ {C S : Type 0} (step : C → S → Res S) where
   pub run-empty : (s : S) → run step [] s ≡ ok s

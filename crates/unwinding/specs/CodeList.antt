@@ -3,7 +3,7 @@ use Prim.Native.Nat.{ℕ, _+_}
 use mathlib.Core.List.{List, [], _∷_}
 use mathlib.Core.Option.{Option, none, some}
 use lib.Dec.{eqb}
-use Rattle.unwinding.specs.Answer.{Res, ok, _>>=_, if_then_else_}
+use Rattle.words.specs.Answer.{Res, ok, _>>=_, if_then_else_}
 
 -- the codes before an end code, and the size of the end code's instruction
 pub record Codes (C : Type 0) : Type 0 where

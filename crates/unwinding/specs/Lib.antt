@@ -1,4 +1,3 @@
-pub mod Answer
 pub mod CodeList
 pub mod Shape
 pub mod View

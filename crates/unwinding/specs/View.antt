@@ -6,7 +6,7 @@ use lib.Dec.{leb, ltb}
 use Rattle.words.specs.declared.CodeBytes.{CodeBytes}
 use Rattle.words.specs.Units.{codeBytes}
 use Rattle.words.specs.declared.Refusal.the-variants.{BadLayout}
-use Rattle.unwinding.specs.Answer.{Res, ok, _>>=_, _>>_, need, if_then_else_}
+use Rattle.words.specs.Answer.{Res, ok, _>>=_, _>>_, need, if_then_else_}
 use Rattle.unwinding.specs.CodeList.{Codes, total}
 use Rattle.unwinding.specs.Shape.{Shape, startOf}
 use Rattle.unwinding.specs.declared.Scope.{Scope}

@@ -7,7 +7,7 @@ use native.Mathlib.Omega.{arith}
 use lib.Dec.{eqb, leb}
 use borrow.Author.Tests.{leb-true, leb-false, ne-eqb}
 use Rattle.words.specs.Bits.{even}
-use Rattle.unwinding.specs.Answer.{Res, ok, refuse, if_then_else_, either}
+use Rattle.words.specs.Answer.{Res, ok, refuse, if_then_else_, either}
 use Rattle.frame.specs.Frame.{Inputs, Caller}
 use Rattle.walking.specs.declared.Stop.the-variants.{End, Full, Refused}
 use Rattle.walking.specs.declared.State.{State}

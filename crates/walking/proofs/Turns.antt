@@ -10,7 +10,7 @@ use Rattle.words.specs.Bits.{even}
 use Rattle.words.specs.declared.Refusal.{Refusal}
 use Rattle.words.specs.declared.Refusal.the-variants.{SpSame}
 use Rattle.words.specs.declared.Verdict.the-variants.{Given, Refused as Refuses}
-use Rattle.unwinding.specs.Answer.{Res, ok, refuse, _>>=_, _>>_, need}
+use Rattle.words.specs.Answer.{Res, ok, refuse, _>>=_, _>>_, need}
 use Rattle.machine.specs.declared.Regs.{Regs}
 use Rattle.frame.specs.declared.Unwound.{Unwound}
 use Rattle.frame.specs.Frame.{Inputs, Caller, frameOf, unwound}

@@ -5,7 +5,7 @@ use lib.Dec.{leb, eqb}
 use Rattle.words.specs.Bits.{even}
 use Rattle.words.specs.declared.Place.{Place}
 use Rattle.words.specs.declared.Place.the-variants.{Leaf}
-use Rattle.unwinding.specs.Answer.{if_then_else_, either}
+use Rattle.words.specs.Answer.{if_then_else_, either}
 use Rattle.machine.specs.declared.Regs.{Regs}
 use Rattle.frame.specs.declared.Unwound.{Unwound}
 use Rattle.frame.specs.Frame.{Inputs, Caller, checked}

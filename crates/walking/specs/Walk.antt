@@ -8,7 +8,7 @@ use lib.ListN.{length, drop}
 use lib.Dec.{eqb}
 use Rattle.words.specs.Bits.{even}
 use Rattle.words.specs.declared.Refusal.the-variants.{SpSame}
-use Rattle.unwinding.specs.Answer.{Res, ok, _>>=_, _>>_, need, if_then_else_, either}
+use Rattle.words.specs.Answer.{Res, ok, _>>=_, _>>_, need, if_then_else_, either}
 use Rattle.machine.specs.declared.Regs.{Regs}
 use Rattle.frame.specs.Frame.{Inputs, Caller, frameOf}
 use Rattle.walking.specs.declared.Frame.{Frame}

@@ -1,11 +1,11 @@
 -- Laws of lent bytes and of their words.
 -- Assumes nothing.
-use Prim.Native.Nat.{ℕ, _+_, _-_, _*_, _≤_, _<_}
+use Prim.Native.Nat.{ℕ, _+_, _≤_, _<_}
 use mathlib.Core.Path.{_≡_, refl, sym, ap, _∙_}
-use mathlib.Core.Bool.{Bool, true, false, _&&_}
+use mathlib.Core.Bool.{Bool, true, false}
 use mathlib.Core.List.{List}
 use lib.Dec.{leb}
-use lib.ListN.{length, getD}
+use lib.ListN.{length, getD, List·getD-eq-default}
 use native.Mathlib.Omega.{arith}
 use borrow.Author.Tests.{le-leb, lt-leb, leb-true, leb-false}
 use Rattle.words.specs.Little.{word32}
@@ -31,7 +31,11 @@ holds-above b s a n h = rw (le-leb b a h) refl
 pub byte-same : (s : List ℕ) {i j : ℕ} → i ≡ j → getD s i 0 ≡ getD s j 0
 byte-same s h = ap (λ k. getD s k 0) h
 
--- where two tests hold together, each does
-pub both : (a b : Bool) → (a && b) ≡ true → (a ≡ true) × (b ≡ true)
-both true b h = (refl, h)
-both false b h = absurd (let z : _≡_ {A = ℕ} 0 1 = cc in omega arith)
+-- no word stands past the end of the bytes
+pub word-past : (s : List ℕ) (i : ℕ) → length s ≤ i → 0 ≡ word32 s i
+word-past s i h =
+    let b0 = List·getD-eq-default s 0 {n = i} h in
+    let b1 = List·getD-eq-default s 0 {n = i + 1} (omega arith) in
+    let b2 = List·getD-eq-default s 0 {n = i + 2} (omega arith) in
+    let b3 = List·getD-eq-default s 0 {n = i + 2 + 1} (omega arith) in
+    omega (arith, b0, b1, b2, b3)

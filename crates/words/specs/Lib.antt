@@ -3,3 +3,4 @@ pub mod Little
 pub mod Lent
 pub mod Units
 pub mod Refusals
+pub mod Answer

@@ -1,11 +1,4 @@
 // .xdata records: the head, the size, the scopes, and the shape as plain values. It knows neither registers nor the stack.
-use tables::FullOf;
-use tables::Head;
-use tables::HeadRead;
-use tables::Part;
-use tables::Plan;
-use tables::Scopes;
-use tables::SizeOf;
 use unwinding::Scope;
 use unwinding::Start;
 use words::CodeBytes;
@@ -13,15 +6,37 @@ use words::Halfwords;
 use words::Refusal;
 use words::Verdict;
 ghost use mathlib.Core.Path.{_≡_};
-ghost use Prim.Native.Nat.{_+_, _-_, _*_, _≤_, _<_};
+ghost use Prim.Native.Nat.{_+_, _-_, _*_, _<_, _/_, _%_};
 ghost use Rattle.words.specs.Bits.{bits};
 ghost use Rattle.words.specs.Lent.{lent};
 ghost use Rattle.words.specs.Little.{word32};
 ghost use Rattle.words.specs.Units.{halfwords, halfwordBytes};
-ghost use Rattle.unwinding.specs.Answer.{ok, refuse, if_then_else_};
-ghost use Rattle.tables.specs.Xdata.{fitXdata, X, E, F, scopeCount, codesOffset, handlerOffset, recordBytes, shortHead, headAt, xdataSize, sizeAnswer, headRead, wholeRecord, longRecord};
-ghost use Rattle.tables.specs.Record.{scopeOf};
-ghost use Rattle.tables.specs.Plan.{scopeIn, resZero, scopesOf, handlerAt, planOf, fullBy, afterHead, fullPlan, fullAnswer};
+ghost use Rattle.words.specs.Answer.{ok, refuse};
+ghost use Rattle.xdata.specs.Xdata.{fitXdata, X, E, F, scopeCount, codesOffset, handlerOffset, recordBytes, shortHead, headAt, xdataSize, sizeAnswer, handlerAt};
+ghost use Rattle.xdata.specs.as_coded.Heads.{headRead, wholeRecord, longRecord};
+ghost use Rattle.xdata.specs.Scopes.{scopeOf};
+ghost use Rattle.xdata.specs.as_coded.Scopes.{resZero};
+
+// The head of an .xdata record: its first word, its own bytes (4, or 8 with the extension word), and the count and the code words from
+// the one or the other.
+pub struct Head {
+    pub word: u32,
+    pub bytes: u32,
+    pub count: u32,
+    pub codewords: u32,
+}
+
+// An .xdata record's size in bytes; 0 where it is refused.
+pub struct SizeOf {
+    pub verdict: Verdict,
+    pub bytes: u32,
+}
+
+// A head that was read; all 0 where it is refused.
+pub struct HeadRead {
+    pub verdict: Verdict,
+    pub head: Head,
+}
 
 // Whether the .xdata may be lent at this RVA: 1 else.
 pub fn fit(rva: u32, xdata: &[u8]) -> bool
@@ -41,21 +56,21 @@ fn has_handler(h: Head) -> bool
 }
 
 // E: the count is the index of one epilogue at the function's end.
-fn has_last(h: Head) -> bool
+pub fn has_last(h: Head) -> bool
     ensures { λ r. ⌜ r ≡ E h ⌝ }
 {
     h.word / 2097152 % 2 == 1
 }
 
 // F: there is no prologue.
-fn is_fragment(h: Head) -> bool
+pub fn is_fragment(h: Head) -> bool
     ensures { λ r. ⌜ r ≡ F h ⌝ }
 {
     h.word / 4194304 % 2 == 1
 }
 
 // The number of scope words.
-fn scope_count(h: Head) -> u32
+pub fn scope_count(h: Head) -> u32
     ensures { λ r. ⌜ r ≡ scopeCount h ⌝ }
 {
     if has_last(h) {
@@ -65,7 +80,7 @@ fn scope_count(h: Head) -> u32
 }
 
 // The offset in a record of its codes.
-fn codes_offset(h: Head) -> u64
+pub fn codes_offset(h: Head) -> u64
     ensures { λ r. ⌜ (r ≡ codesOffset h) × (r < 34359738368) ⌝ }
 {
     (h.bytes as u64) + 4 * (scope_count(h) as u64)
@@ -204,14 +219,14 @@ pub fn xdata_size(rva: u32, xdata: &[u8], at: u32) -> SizeOf
 }
 
 // The function's length in bytes.
-fn span_of(word: u32) -> u32
+pub fn span_of(word: u32) -> u32
     ensures { λ r. ⌜ r ≡ halfwordBytes (halfwords (bits 0 18 word)) ⌝ }
 {
     words::halfword_bytes(Halfwords(word % 262144)) as u32
 }
 
 // A scope word; its start stands where a head's length does.
-fn scope_of(word: u32) -> Scope
+pub fn scope_of(word: u32) -> Scope
     ensures { λ r. ⌜ r ≡ scopeOf word ⌝ }
 {
     Scope {
@@ -222,7 +237,7 @@ fn scope_of(word: u32) -> Scope
 }
 
 // The word k words after an offset; 0 past the end.
-fn word_after(xdata: &[u8], at: usize, k: usize) -> u32
+pub fn word_after(xdata: &[u8], at: usize, k: usize) -> u32
     ensures { λ r. ⌜ r ≡ word32 (now (xdata .entry)) (at + 4 * k) ⌝ }
 {
     if xdata.len() <= at {
@@ -234,23 +249,8 @@ fn word_after(xdata: &[u8], at: usize, k: usize) -> u32
     words::word32(xdata, at + 4 * k)
 }
 
-// The scope of a number; a plan has as many as its count says.
-pub fn scope(plan: Plan, xdata: &[u8], k: usize) -> Scope
-    ensures { λ r. ⌜ r ≡ scopeIn (plan .scopes) (now (xdata .entry)) k ⌝ }
-{
-    let scopes = plan.scopes;
-    match scopes {
-        Scopes::Ending(i) => Scope {
-            start: Start::Ending,
-            condition: 14,
-            index: i,
-        },
-        Scopes::Listed(at) => scope_of(word_after(xdata, at, k)),
-    }
-}
-
 // Whether n scope words have Res 0.
-fn res_zero(xdata: &[u8], at: usize, n: usize) -> bool
+pub fn res_zero(xdata: &[u8], at: usize, n: usize) -> bool
     ensures { λ r. ⌜ r ≡ resZero (now (xdata .entry)) at 0 n ⌝ }
 {
     let mut k = 0;
@@ -263,112 +263,12 @@ fn res_zero(xdata: &[u8], at: usize, n: usize) -> bool
     true
 }
 
-// An RVA's offset in the .xdata.
-fn offset(rva: u32, at: u32) -> usize
-    ensures { λ r. ⌜ (r ≡ at - rva) × (r < 4294967296) ⌝ }
-{
-    if at < rva {
-        return 0;
-    }
-    (at - rva) as usize
-}
-
-// Where a record's scopes stand.
-fn scopes_of(offset: usize, h: Head) -> Scopes
-    requires { ⌜ offset < 4294967296 ⌝ }
-    ensures { λ r. ⌜ r ≡ scopesOf offset h ⌝ }
-{
-    if has_last(h) {
-        return Scopes::Ending(CodeBytes(h.count as usize));
-    }
-    Scopes::Listed(offset + (h.bytes as usize))
-}
-
-// How many epilogues a record has.
-fn epilogues(h: Head) -> usize
-    ensures { λ r. ⌜ r ≡ (if E h then 1 else h .count) ⌝ }
-{
-    if has_last(h) {
-        return 1;
-    }
-    h.count as usize
-}
-
 // The handler's RVA; 0 if none.
-fn handler_of(rva: u32, xdata: &[u8], at: u32, h: Head) -> u32
+pub fn handler_of(rva: u32, xdata: &[u8], at: u32, h: Head) -> u32
     ensures { λ r. ⌜ r ≡ handlerAt (lent rva (now (xdata .entry))) at h ⌝ }
 {
     if has_handler(h) {
         return words::word_at(rva, xdata, (at as u64) + handler_offset(h));
     }
     0
-}
-
-// The plan of a record whose head was read.
-fn plan_of(rva: u32, xdata: &[u8], at: u32, h: Head) -> Plan
-    ensures { λ r. ⌜ r ≡ planOf (lent rva (now (xdata .entry))) at h ⌝ }
-{
-    Plan {
-        span: span_of(h.word),
-        fragment: is_fragment(h),
-        count: epilogues(h),
-        scopes: scopes_of(offset(rva, at), h),
-        handler: handler_of(rva, xdata, at, h),
-    }
-}
-
-// A refused record.
-fn no_full(why: Refusal) -> FullOf
-    ensures { λ r. ⌜ r ≡ fullAnswer (refuse why) ⌝ }
-{
-    FullOf {
-        verdict: Verdict::Refused(why),
-        plan: Plan {
-            span: 0,
-            fragment: false,
-            count: 0,
-            scopes: Scopes::Listed(0),
-            handler: 0,
-        },
-        codes: Part { start: 0, len: 0 },
-    }
-}
-
-// The record of a head.
-fn full_of(rva: u32, xdata: &[u8], at: u32, h: Head) -> FullOf
-    ensures { λ r. ⌜ r ≡ fullBy (lent rva (now (xdata .entry))) at h ⌝ }
-{
-    let len = words::code_word_bytes(h.codewords);
-    FullOf {
-        verdict: Verdict::Given,
-        plan: plan_of(rva, xdata, at, h),
-        codes: Part {
-            start: offset(rva, at) + (codes_offset(h) as usize),
-            len: len.0,
-        },
-    }
-}
-
-// The same, if its scopes have Res 0.
-fn after_head(rva: u32, xdata: &[u8], at: u32, h: Head) -> FullOf
-    requires { ⌜ rva ≤ at ⌝ }
-    ensures { λ r. ⌜ r ≡ fullAnswer (afterHead (lent rva (now (xdata .entry))) at h) ⌝ }
-{
-    let first = offset(rva, at) + (h.bytes as usize);
-    if res_zero(xdata, first, scope_count(h) as usize) {
-        return full_of(rva, xdata, at, h);
-    }
-    no_full(Refusal::Reserved)
-}
-
-// The full record at an RVA: what its head is refused for, then scope Res 4.
-pub fn full(rva: u32, xdata: &[u8], at: u32) -> FullOf
-    ensures { λ r. ⌜ r ≡ fullAnswer (fullPlan (lent rva (now (xdata .entry))) at) ⌝ }
-{
-    let read = head_at(rva, xdata, at);
-    let verdict = read.verdict;
-    match verdict {
-        Verdict::Given => after_head(rva, xdata, at, read.head),
-        Verdict::Refused(why) => no_full(why),
-    }
 }

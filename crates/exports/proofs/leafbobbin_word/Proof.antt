@@ -2,7 +2,7 @@
 use mathlib.Core.Path.{ap, _∙_}
 use borrow.Author.Needs.{needs}
 use Rattle.words.specs.Refusals.{verdictNumber}
-use Rattle.tables.specs.Packed.{writeWord, wordAnswer}
+use Rattle.packed.specs.Packed.{writeWord, wordAnswer}
 use Rattle.exports.proofs.leafbobbin_word.Statement.{statement}
 use Rattle.exports.proofs.leafbobbin_word.Tie as tie
 

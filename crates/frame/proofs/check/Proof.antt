@@ -5,7 +5,7 @@ use Rattle.frame.proofs.check.Statement.{statement}
 use Rattle.frame.proofs.check.Tie as tie
 use Rattle.frame.proofs.all_three.Reads as all-three-reads
 use Rattle.frame.proofs.fit_stack.Reads as fit-stack-reads
-use Rattle.tables.proofs.pdata.check.Reads as check-reads
+use Rattle.pdata.proofs.check.Reads as check-reads
 use Rattle.xdata.proofs.fit.Reads as fit-reads
 
 check-requires : tie.Need-check-requires

@@ -2,8 +2,8 @@
 -- Assumes nothing.
 use mathlib.Core.Path.{_≡_, refl, sym, ap, _∙_}
 use mathlib.Core.Bool.{true}
-use Rattle.tables.specs.declared.Sound.{Sound}
-use Rattle.tables.specs.Pdata.{find, sound}
+use Rattle.pdata.specs.declared.Sound.{Sound}
+use Rattle.pdata.specs.Pdata.{find, sound}
 use Rattle.frame.specs.Frame.{inputs, unwound}
 use Rattle.frame.proofs.Finding.{frame-unfit, frame-fit}
 use borrow.Author.Needs.{needs}
@@ -11,7 +11,7 @@ use Rattle.frame.proofs.frame_of.Statement.{statement}
 use Rattle.frame.proofs.frame_of.Tie as tie
 use Rattle.frame.proofs.after_find.Reads as after-find-reads
 use Rattle.frame.proofs.caller.refused.Reads as refused-reads
-use Rattle.tables.proofs.pdata.find_in.Reads as find-in-reads
+use Rattle.pdata.proofs.find_in.Reads as find-in-reads
 
 find-in-requires : tie.Need-find-in-requires
 find-in-requires c κs = search needs

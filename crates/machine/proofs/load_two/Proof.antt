@@ -6,7 +6,7 @@ use mathlib.Core.Path.{_≡_, sym, _∙_}
 use native.Mathlib.Omega.{arith}
 use borrow.Author.Needs.{needs}
 use Rattle.words.specs.Lent.{Lent, lent}
-use Rattle.unwinding.specs.Answer.{ok}
+use Rattle.words.specs.Answer.{ok}
 use Rattle.machine.specs.Step.{load}
 use Rattle.machine.proofs.Answers.{loaded-word, loaded-refused}
 use Rattle.machine.proofs.Loading.{load-inside}

@@ -3,7 +3,7 @@ use Prim.Native.Nat.{_+_, _%_}
 use mathlib.Core.Path.{sym, ap, _∙_}
 use borrow.Author.Needs.{needs}
 use Rattle.words.specs.Units.{stackWords}
-use Rattle.tables.proofs.Tests.{if-true, if-false}
+use Rattle.words.proofs.Tests.{if-true, if-false}
 use Rattle.packed.proofs.amount.Statement.{statement}
 use Rattle.packed.proofs.amount.Tie as tie
 

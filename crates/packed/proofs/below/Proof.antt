@@ -1,6 +1,6 @@
 -- The second test counts where the first holds. Assumes nothing.
 use borrow.Author.Needs.{needs}
-use Rattle.tables.proofs.Tests.{and-true}
+use Rattle.words.proofs.Tests.{and-true}
 use Rattle.packed.proofs.below.Statement.{statement}
 use Rattle.packed.proofs.below.Tie as tie
 

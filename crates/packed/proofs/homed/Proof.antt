@@ -3,7 +3,7 @@ use Prim.Native.Nat.{_%_}
 use mathlib.Core.Path.{_∙_}
 use native.Mathlib.Omega.{arith}
 use borrow.Author.Needs.{needs}
-use Rattle.tables.proofs.Tests.{if-true}
+use Rattle.words.proofs.Tests.{if-true}
 use Rattle.packed.proofs.Registers.{to-r3, range-r3}
 use Rattle.packed.proofs.homed.Statement.{statement}
 use Rattle.packed.proofs.homed.Tie as tie

@@ -1,7 +1,7 @@
 -- The fields of a word fit, and its list is theirs. Assumes nothing.
 use mathlib.Core.Path.{ap, _∙_}
 use borrow.Author.Needs.{needs}
-use Rattle.tables.specs.PackedCodes.{integers as integersOf}
+use Rattle.packed.specs.Packed.{integers as integersOf}
 use Rattle.packed.proofs.Words.{fields-fit}
 use Rattle.packed.proofs.integers.Statement.{statement}
 use Rattle.packed.proofs.integers.Tie as tie

@@ -1,6 +1,6 @@
 -- The second test counts where the first fails. Assumes nothing.
 use borrow.Author.Tests.{eq-eqb, ne-eqb}
-use Rattle.tables.proofs.Tests.{or-true, or-false}
+use Rattle.words.proofs.Tests.{or-true, or-false}
 use Rattle.packed.proofs.is_packed.Statement.{statement}
 use Rattle.packed.proofs.is_packed.Tie as tie
 

@@ -1,7 +1,7 @@
 -- The second test counts where the first holds. Assumes nothing.
 use mathlib.Core.Path.{sym, _∙_}
 use borrow.Author.Needs.{needs}
-use Rattle.tables.proofs.Tests.{and-true, and-false}
+use Rattle.words.proofs.Tests.{and-true, and-false}
 use Rattle.packed.proofs.writable.Statement.{statement}
 use Rattle.packed.proofs.writable.Tie as tie
 

@@ -2,7 +2,7 @@
 use mathlib.Core.Path.{sym, ap, _∙_}
 use borrow.Author.Needs.{needs}
 use Rattle.words.specs.declared.Verdict.the-variants.{Given}
-use Rattle.tables.specs.Packed.{wordAnswer}
+use Rattle.packed.specs.Packed.{wordAnswer}
 use Rattle.packed.proofs.Words.{writable-fit, write-given, write-refused}
 use Rattle.packed.proofs.write_word.Statement.{statement}
 use Rattle.packed.proofs.write_word.Tie as tie

@@ -2,8 +2,8 @@
 use mathlib.Core.Bool.{not}
 use mathlib.Core.Path.{refl, sym, ap, _∙_}
 use borrow.Author.Needs.{needs}
-use Rattle.tables.specs.Packed.{amount}
-use Rattle.tables.specs.PackedCodes.{upCode}
+use Rattle.packed.specs.Packed.{amount}
+use Rattle.packed_codes.specs.PackedCodes.{upCode}
 use Rattle.packed_codes.specs.Out.{puts}
 use Rattle.packed_codes.proofs.Pieces.{amount-small}
 use Rattle.packed_codes.proofs.Buffer.{puts-when, puts-unless}

@@ -1,6 +1,6 @@
 -- Both lists, written on a blank of 16 bytes that they do not outgrow. Assumes nothing.
 use borrow.Author.Needs.{needs}
-use Rattle.tables.specs.Packed.{fields}
+use Rattle.packed.specs.Packed.{fields}
 use Rattle.packed_codes.proofs.Written.{second-longer, codes-written}
 use Rattle.packed_codes.proofs.both_lists.Statement.{statement}
 use Rattle.packed_codes.proofs.both_lists.Tie as tie

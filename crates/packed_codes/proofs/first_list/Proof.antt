@@ -2,7 +2,7 @@
 use mathlib.Core.Path.{sym}
 use borrow.Author.Tests.{ltb-true}
 use borrow.Author.Needs.{needs}
-use Rattle.tables.specs.Packed.{fields}
+use Rattle.packed.specs.Packed.{fields}
 use Rattle.packed.proofs.Words.{fields-fit}
 use Rattle.packed_codes.proofs.Pieces.{first-written}
 use Rattle.packed_codes.proofs.first_list.Statement.{statement}

@@ -5,7 +5,7 @@ use mathlib.Core.Bool.{_&&_}
 use mathlib.Core.Path.{sym, _∙_}
 use lib.Dec.{eqb}
 use borrow.Author.Needs.{needs}
-use Rattle.tables.specs.PackedCodes.{when, popCode, low}
+use Rattle.packed_codes.specs.PackedCodes.{when, popCode, low}
 use Rattle.packed_codes.proofs.Pieces.{jump-written, narrow-low}
 use Rattle.packed_codes.proofs.leave_jumping.Statement.{statement}
 use Rattle.packed_codes.proofs.leave_jumping.Tie as tie

@@ -1,7 +1,7 @@
 -- By the list: nothing, or the code of its size. Assumes nothing.
 use mathlib.Core.Path.{sym, ap, _∙_}
 use borrow.Author.Needs.{needs}
-use Rattle.tables.specs.PackedCodes.{popSized}
+use Rattle.packed_codes.specs.PackedCodes.{popSized}
 use Rattle.packed_codes.specs.Out.{puts}
 use Rattle.packed_codes.proofs.Buffer.{puts-none}
 use Rattle.packed_codes.proofs.Pieces.{pop-empty, pop-some}

@@ -1,7 +1,7 @@
 -- Nothing for Ret=3; else each call writes one piece of the list, in the definition's order. Assumes nothing.
 use mathlib.Core.Path.{sym, ap, _∙_}
 use borrow.Author.Needs.{needs}
-use Rattle.tables.specs.Packed.{fields}
+use Rattle.packed.specs.Packed.{fields}
 use Rattle.packed.proofs.Words.{fields-fit}
 use Rattle.packed_codes.specs.Out.{puts}
 use Rattle.packed_codes.proofs.Pieces.{second-none, second-written}

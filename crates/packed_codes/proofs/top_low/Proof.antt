@@ -1,7 +1,7 @@
 -- Each list is one of the definition's four, or none of them. Assumes nothing.
 use mathlib.Core.Path.{refl}
 use borrow.Author.Tests.{ne-eqb}
-use Rattle.tables.specs.PackedCodes.{upTo}
+use Rattle.packed_codes.specs.PackedCodes.{upTo}
 use Rattle.packed_codes.proofs.top_low.Statement.{statement}
 use Rattle.packed_codes.proofs.top_low.Tie as tie
 

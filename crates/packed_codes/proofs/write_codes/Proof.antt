@@ -1,8 +1,8 @@
 -- By whether the word is allowed: both lists of its fields, or refused. Assumes nothing.
 use mathlib.Core.Path.{sym, ap, _∙_}
 use borrow.Author.Needs.{needs}
-use Rattle.tables.specs.PackedCodes.{codesAnswer}
-use Rattle.tables.specs.Packed.{allowed}
+use Rattle.packed_codes.specs.PackedCodes.{codesAnswer}
+use Rattle.packed.specs.Packed.{allowed}
 use Rattle.packed_codes.proofs.Written.{codes-refused, codes-given}
 use Rattle.packed_codes.proofs.write_codes.Statement.{statement}
 use Rattle.packed_codes.proofs.write_codes.Tie as tie

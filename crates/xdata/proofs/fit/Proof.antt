@@ -1,7 +1,7 @@
 -- By the two tests that the definition joins. Assumes nothing.
 use borrow.Author.Tests.{eq-eqb, ne-eqb}
 use borrow.Author.Needs.{needs}
-use Rattle.tables.proofs.Tests.{and-true, and-false}
+use Rattle.words.proofs.Tests.{and-true, and-false}
 use Rattle.xdata.proofs.fit.Statement.{statement}
 use Rattle.xdata.proofs.fit.Tie as tie
 

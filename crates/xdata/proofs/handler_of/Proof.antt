@@ -3,8 +3,8 @@ use Prim.Native.Nat.{_+_}
 use mathlib.Core.Path.{sym, ap, _∙_}
 use borrow.Author.Needs.{needs}
 use Rattle.words.specs.Lent.{lent, wordAt}
-use Rattle.tables.specs.Xdata.{handlerOffset}
-use Rattle.tables.proofs.Tests.{if-true, if-false}
+use Rattle.xdata.specs.Xdata.{handlerOffset}
+use Rattle.words.proofs.Tests.{if-true, if-false}
 use Rattle.xdata.proofs.handler_of.Statement.{statement}
 use Rattle.xdata.proofs.handler_of.Tie as tie
 

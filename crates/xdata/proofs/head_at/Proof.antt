@@ -4,8 +4,8 @@ use mathlib.Core.Path.{_≡_, subst, sym, ap, _∙_}
 use borrow.Author.Tests.{not-true, not-false}
 use borrow.Author.Needs.{needs}
 use Rattle.words.specs.Lent.{lent, holds}
-use Rattle.tables.specs.Xdata.{headRead}
-use Rattle.tables.proofs.Heads.{head-outside, head-version, head-long, head-short}
+use Rattle.xdata.specs.as_coded.Heads.{headRead}
+use Rattle.xdata.proofs.Heads.{head-outside, head-version, head-long, head-short}
 use Rattle.xdata.proofs.head_at.Statement.{statement}
 use Rattle.xdata.proofs.head_at.Tie as tie
 

@@ -5,8 +5,8 @@ use native.Mathlib.Nat.{div-one}
 use borrow.Author.Tests.{not-true, not-false}
 use borrow.Author.Needs.{needs}
 use Rattle.words.specs.Lent.{lent, holds}
-use Rattle.tables.specs.Xdata.{wholeRecord, headRead}
-use Rattle.tables.proofs.Heads.{long-outside, long-reserved, long-given}
+use Rattle.xdata.specs.as_coded.Heads.{wholeRecord, headRead}
+use Rattle.xdata.proofs.Heads.{long-outside, long-reserved, long-given}
 use Rattle.xdata.proofs.long_head.Statement.{statement}
 use Rattle.xdata.proofs.long_head.Tie as tie
 

@@ -3,8 +3,8 @@ use Prim.Native.Nat.{_+_}
 use mathlib.Core.Path.{_≡_, sym, ap, _∙_}
 use native.Mathlib.Omega.{arith}
 use borrow.Author.Needs.{needs}
-use Rattle.tables.specs.Xdata.{handlerOffset}
-use Rattle.tables.proofs.Tests.{if-true, if-false}
+use Rattle.xdata.specs.Xdata.{handlerOffset}
+use Rattle.words.proofs.Tests.{if-true, if-false}
 use Rattle.xdata.proofs.record_bytes.Statement.{statement}
 use Rattle.xdata.proofs.record_bytes.Tie as tie
 

@@ -3,8 +3,8 @@ use Prim.Native.Nat.{_-_, _≤_}
 use mathlib.Core.Path.{_≡_, sym, ap, _∙_}
 use native.Mathlib.Omega.{arith}
 use borrow.Author.Needs.{needs}
-use Rattle.tables.specs.Plan.{resZero}
-use Rattle.tables.proofs.Shapes.{res-done, res-stops, res-goes-on}
+use Rattle.xdata.specs.as_coded.Scopes.{resZero}
+use Rattle.xdata.proofs.Scopes.{res-done, res-stops, res-goes-on}
 use Rattle.xdata.proofs.res_zero.Statement.{statement}
 use Rattle.xdata.proofs.res_zero.Tie as tie
 

@@ -1,7 +1,7 @@
 -- By the test of E that the definition makes. Assumes nothing.
 use mathlib.Core.Path.{sym, _∙_}
 use borrow.Author.Needs.{needs}
-use Rattle.tables.proofs.Tests.{if-true, if-false}
+use Rattle.words.proofs.Tests.{if-true, if-false}
 use Rattle.xdata.proofs.scope_count.Statement.{statement}
 use Rattle.xdata.proofs.scope_count.Tie as tie
 

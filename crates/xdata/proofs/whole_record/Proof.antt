@@ -2,8 +2,8 @@
 use mathlib.Core.Path.{sym, ap, _∙_}
 use borrow.Author.Needs.{needs}
 use Rattle.words.specs.Lent.{lent, holds}
-use Rattle.tables.specs.Xdata.{headRead}
-use Rattle.tables.proofs.Heads.{whole-given, whole-outside}
+use Rattle.xdata.specs.as_coded.Heads.{headRead}
+use Rattle.xdata.proofs.Heads.{whole-given, whole-outside}
 use Rattle.xdata.proofs.whole_record.Statement.{statement}
 use Rattle.xdata.proofs.whole_record.Tie as tie
 

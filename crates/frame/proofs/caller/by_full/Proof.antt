@@ -5,8 +5,8 @@ use mathlib.Core.Path.{_≡_, sym, ap, _∙_}
 use native.Mathlib.Omega.{arith}
 use lib.ListN.{length, take, drop, length-take}
 use Rattle.words.specs.Lent.{lent}
-use Rattle.tables.specs.Plan.{shapeBy}
-use Rattle.tables.proofs.Shapes.{full-inside, full-few}
+use Rattle.record.specs.as_coded.Plan.{shapeBy}
+use Rattle.record.proofs.Shapes.{full-inside, full-few}
 use Rattle.frame.specs.Frame.{unwound}
 use Rattle.frame.specs.FromSpot.{inShape}
 use Rattle.frame.proofs.Records.{full-refused, full-given}

@@ -2,7 +2,7 @@
 -- Assumes nothing.
 use mathlib.Core.Path.{_≡_, sym, ap, _∙_}
 use Rattle.words.specs.Lent.{lent}
-use Rattle.tables.specs.Plan.{shapeBy}
+use Rattle.record.specs.as_coded.Plan.{shapeBy}
 use Rattle.frame.specs.Frame.{unwound}
 use Rattle.frame.proofs.Within.{within-refused, within-given}
 use borrow.Author.Needs.{needs}

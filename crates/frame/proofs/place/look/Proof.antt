@@ -6,11 +6,11 @@ use mathlib.Core.Path.{_≡_, refl, sym, ap, _∙_}
 use native.Mathlib.Omega.{arith}
 use mathlib.Core.List.{[]}
 use borrow.Author.Needs.{needs}
-use Rattle.tables.specs.Plan.{scopesFrom}
+use Rattle.record.specs.as_coded.Plan.{scopesFrom}
 use Rattle.codes.specs.Code.{scan}
 use Rattle.codes.specs.Reading.{scanned}
 use Rattle.frame.specs.Look.{lookFrom}
-use Rattle.tables.proofs.Shapes.{scopes-done}
+use Rattle.record.proofs.Shapes.{scopes-done}
 use Rattle.frame.proofs.Looking.{turn-made, turn-bad, look-none}
 use Rattle.frame.proofs.place.look.Statement.{statement}
 use Rattle.frame.proofs.place.look.Tie as tie

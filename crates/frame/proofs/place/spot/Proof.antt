@@ -4,7 +4,7 @@ use mathlib.Core.Path.{_≡_, sym, ap, ap₂, _∙_}
 use native.Mathlib.Omega.{arith}
 use Rattle.words.specs.Units.{codeBytes}
 use Rattle.codes.proofs.Sizes.{scanned-ends}
-use Rattle.tables.specs.Plan.{scopesFrom}
+use Rattle.record.specs.as_coded.Plan.{scopesFrom}
 use Rattle.frame.proofs.Looking.{spot-made, spot-bad}
 use Rattle.frame.specs.Look.{lookFrom, unseen, inSeen}
 use borrow.Author.Needs.{needs}

@@ -1,0 +1,79 @@
+-- Packed words.
+--
+--   31          22 21 20 19 18  16 15 14  13 12         2 1   0
+--  | Stack Adjust | C| L| R| Reg  | H|  Ret | length / 2 | Flag |
+--
+-- Flag 1: packed; 2: packed without prologue.
+use Prim.Native.Nat.{ℕ, _+_, _-_, _*_, _%_, _^_, _<_}
+use mathlib.Core.Bool.{Bool, _&&_, _||_, not}
+use lib.Dec.{leb, ltb, eqb}
+use Rattle.words.specs.declared.StackWords.{StackWords}
+use Rattle.words.specs.declared.Refusal.the-variants.{Reserved}
+use Rattle.words.specs.Bits.{bits, bit}
+use Rattle.words.specs.Units.{halfwords, stackWords}
+use Rattle.words.specs.Answer.{Res, ok, need, if_then_else_, verdict, orElse, _>>=_, _>>_}
+use Rattle.codes.specs.Table.{range}
+use Rattle.packed.specs.declared.Packed.{Packed}
+use Rattle.packed.specs.declared.WordOf.{WordOf}
+
+abbrev pub fields : ℕ → Packed
+fields w =
+    record { flag = bits 0 2 w; length = halfwords (bits 2 11 w); ret = bits 13 2 w; h = bits 15 1 w; reg = bits 16 3 w; r = bits 19 1 w; l = bits 20 1 w; c = bits 21 1 w; adjust = bits 22 10 w }
+
+abbrev pub wordOf : Packed → ℕ
+wordOf p =
+    p .flag + 2 ^ 2 * p .length .0 + 2 ^ 13 * p .ret + 2 ^ 15 * p .h + 2 ^ 16 * p .reg + 2 ^ 19 * p .r + 2 ^ 20 * p .l + 2 ^ 21 * p .c
+    + 2 ^ 22 * p .adjust
+
+-- no "field too large for its bits"
+abbrev pub fieldsFit : Packed → Bool
+fieldsFit p =
+    ltb (p .flag) (2 ^ 2) && ltb (p .length .0) (2 ^ 11) && ltb (p .ret) (2 ^ 2) && ltb (p .h) 2 && ltb (p .reg) (2 ^ 3) && ltb (p .r) 2
+    && ltb (p .l) 2
+    && ltb (p .c) 2
+    && ltb (p .adjust) (2 ^ 10)
+
+-- 4: Flag 3 (and, for a writer, 0); "packed with Ret=0 and L=0, or C=1 and L=0, or C=1, R=0 and Reg=7"
+abbrev pub allowed : Packed → Bool
+allowed p =
+    (eqb (p .flag) 1 || eqb (p .flag) 2) && not (eqb (p .ret) 0 && eqb (p .l) 0) && not (eqb (p .c) 1 && eqb (p .l) 0)
+    && not (eqb (p .c) 1 && eqb (p .r) 0 && eqb (p .reg) 7)
+
+-- the word's writer
+unfoldable pub writeWord : Packed → Res ℕ
+writeWord p = do
+  need (fieldsFit p && allowed p) Reserved
+  ok (wordOf p)
+
+abbrev pub wordAnswer : Res ℕ → WordOf
+wordAnswer r = record { verdict = verdict r; word = orElse r 0 }
+
+-- "Stack Adjust below 0x3F4 is the amount in words, PF = EF = 0. From 0x3F4: amount = low 2 bits + 1, PF = bit 2, EF = bit 3."
+abbrev pub folded : Packed → Bool
+folded p = leb 0x3F4 (p .adjust)
+
+abbrev pub amount : Packed → StackWords
+amount p = stackWords (if folded p then p .adjust % 4 + 1 else p .adjust)
+
+abbrev pub PF : Packed → Bool
+PF p = folded p && bit 2 (p .adjust)
+
+abbrev pub EF : Packed → Bool
+EF p = folded p && bit 3 (p .adjust)
+
+-- "Integer list: r4-rN if R=0; rS-r3 if PF (in the epilogue EF); r11 if C; LR if L": all but LR, N = 4 + Reg, S = 3 - (Stack Adjust mod 4)
+abbrev pub integers : Packed → (fold : Bool) → ℕ
+integers p fold =
+    (if eqb (p .r) 0 then range 4 (4 + p .reg) else 0) + (if fold then range (3 - p .adjust % 4) 3 else 0) + p .c * 2 ^ 11
+
+-- each field below what its bits hold
+pub record Fit (p : Packed) : Type 0 where
+  pub flag : p .flag < 2 ^ 2
+  pub length : p .length .0 < 2 ^ 11
+  pub ret : p .ret < 2 ^ 2
+  pub h : p .h < 2
+  pub reg : p .reg < 2 ^ 3
+  pub r : p .r < 2
+  pub l : p .l < 2
+  pub c : p .c < 2
+  pub adjust : p .adjust < 2 ^ 10

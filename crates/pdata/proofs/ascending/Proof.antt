@@ -1,0 +1,87 @@
+-- The loop's invariant: the whole table ascends exactly if the records from i on do, and the last start is record i's. One record, or
+-- none, ascends.
+-- Assumes nothing.
+use Prim.Native.Nat.{_<_, _+_, _-_, _/_, _≤_}
+use mathlib.Core.Path.{sym, ap, _∙_, _≡_}
+use lib.ListN.{length}
+use native.Mathlib.Omega.{arith}
+use borrow.Author.Needs.{needs}
+use Rattle.unwinding.specs.View.{ascending as ascendingOf}
+use Rattle.pdata.specs.Pdata.{starts}
+use Rattle.pdata.proofs.Finding.{ascending-stops, ascending-goes-on, ascendingFrom, ascending-all, ascending-last, startAt}
+use Rattle.pdata.proofs.ascending.Statement.{statement}
+use Rattle.pdata.proofs.ascending.Tie as tie
+
+abbrev Inv-loop : tie.InvT-loop
+Inv-loop pdata n i₀ last₀ i last = (n ≡ length pdata / 8) × (i ≤ n) × (ascendingOf (starts pdata) ≡ ascendingFrom pdata i n) × (last ≡ startAt pdata i)
+
+abbrev μ-loop : tie.MeasureT-loop
+μ-loop pdata n i₀ last₀ i last = n - i
+
+records-requires : tie.Need-records-requires Inv-loop μ-loop
+records-requires c κs = search needs
+
+start-at-requires : tie.Need-start-at-requires Inv-loop μ-loop
+start-at-requires c κs = search needs
+
+loop-holds : tie.Need-loop-holds Inv-loop μ-loop
+loop-holds c =
+    let s = c .before .before .before .args .pdata .now in
+    let r = c .before .records in
+    (r .ensures, omega arith, sym (ascending-all s) ∙ ap (ascendingFrom s 0) (sym (r .ensures)), c .start-at .ensures)
+
+add-loop : tie.Need-add-loop Inv-loop μ-loop
+add-loop c = search needs
+
+add-start-at : tie.Need-add-start-at Inv-loop μ-loop
+add-start-at c = search needs
+
+start-at-requires-2 : tie.Need-start-at-requires-2 Inv-loop μ-loop
+start-at-requires-2 c κs = search needs
+
+returns : tie.Need-returns Inv-loop μ-loop
+returns c =
+    let s = c .before .before .before .before .before .before .before .args .pdata .now in
+    let l = c .before .before .before .loop in
+    let n = c .before .before .before .before .before .records .result in
+    let down : startAt s (l .i + 1) ≤ startAt s (l .i) = omega (arith, c .if1 .taken, c .before .start-at2 .ensures, l .inv .3) in
+    sym (l .inv .2 ∙ ascending-stops s (l .i) n (c .before .before .loop-test .taken) down)
+
+add-i : tie.Need-add-i Inv-loop μ-loop
+add-i c = search needs
+
+loop-less : tie.Need-loop-less Inv-loop μ-loop
+loop-less c = search needs
+
+loop-again : tie.Need-loop-again Inv-loop μ-loop
+loop-again c =
+    let s = c .before .before .before .before .before .before .before .args .pdata .now in
+    let l = c .before .before .before .loop in
+    let n = c .before .before .before .before .before .records .result in
+    let next = c .before .start-at2 .ensures in
+    let up : startAt s (l .i) < startAt s (l .i + 1) = omega (arith, c .if1 .left, next, l .inv .3) in
+    (l .inv .0, omega arith, l .inv .2 ∙ ascending-goes-on s (l .i) n (c .before .before .loop-test .taken) up, next)
+
+returns-2 : tie.Need-returns-2 Inv-loop μ-loop
+returns-2 c =
+    let s = c .before .before .before .before .before .args .pdata .now in
+    let l = c .before .loop in
+    sym (l .inv .2 ∙ ascending-last s (l .i) (c .before .before .before .records .result) (c .loop-test .left))
+
+pub ascending-spec : {M : Type 1} → statement M
+ascending-spec =
+    tie.close
+    (tie.spec
+    Inv-loop
+    μ-loop
+    records-requires
+    start-at-requires
+    loop-holds
+    add-loop
+    add-start-at
+    start-at-requires-2
+    returns
+    add-i
+    loop-less
+    loop-again
+    returns-2)

@@ -1,0 +1,70 @@
+-- Each return is one case of `find` by its tests; the last is what `search` finds in an ascending table. Assumes nothing.
+use Prim.Native.Nat.{_-_, _<_, _≤_}
+use mathlib.Core.Path.{sym, ap, _∙_}
+use native.Mathlib.Omega.{arith}
+use borrow.Author.Tests.{not-true, not-false}
+use borrow.Author.Needs.{needs}
+use Rattle.words.specs.Bits.{even}
+use Rattle.words.specs.Answer.{ok}
+use Rattle.pdata.specs.Pdata.{entries, lastUpTo, found}
+use Rattle.pdata.proofs.Finding.{find-unfit, find-below, find-unsorted, find-sorted}
+use Rattle.pdata.proofs.find_in.Statement.{statement}
+use Rattle.pdata.proofs.find_in.Tie as tie
+
+refused-requires : tie.Need-refused-requires
+refused-requires c κs = search needs
+
+returns : tie.Need-returns
+returns c e =
+    let a = c .before .before .before .before .args in
+    c .refused .ensures
+    ∙ ap found (sym (find-unfit (a .image) (a .pdata .now) (a .pc) (sym (ap (λ k. k .whole) e) ∙ not-true (a .checked .whole) (c .before .if1 .taken))))
+
+even-requires : tie.Need-even-requires
+even-requires c κs = search needs
+
+refused-requires-2 : tie.Need-refused-requires-2
+refused-requires-2 c κs = search needs
+
+returns-2 : tie.Need-returns-2
+returns-2 c e =
+    let a = c .before .before .before .before .before .before .args in
+    let below : even (a .pc) < a .image = omega (arith, c .before .before .even .ensures, c .before .if2 .taken) in
+    c .refused2 .ensures
+    ∙ ap found (sym (find-below (a .image) (a .pdata .now) (a .pc) (sym (ap (λ k. k .whole) e) ∙ not-false (a .checked .whole) (c .before .before .before .if1 .left)) below))
+
+refused-requires-3 : tie.Need-refused-requires-3
+refused-requires-3 c κs = search needs
+
+returns-3 : tie.Need-returns-3
+returns-3 c e =
+    let a = c .before .before .before .before .before .before .before .before .args in
+    let above : a .image ≤ even (a .pc) = omega (arith, c .before .before .before .before .even .ensures, c .before .before .before .if2 .left) in
+    c .refused3 .ensures
+    ∙ ap found (sym (find-unsorted (a .image) (a .pdata .now) (a .pc) (sym (ap (λ k. k .whole) e) ∙ not-false (a .checked .whole) (c .before .before .before .before .before .if1 .left)) above (sym (ap (λ k. k .ascending) e) ∙ not-true (a .checked .ascending) (c .before .if3 .taken))))
+
+search-requires : tie.Need-search-requires
+search-requires c κs = search needs
+
+returns-4 : tie.Need-returns-4
+returns-4 c e =
+    let a = c .before .before .before .before .before .before .before .before .args in
+    let above : a .image ≤ even (a .pc) = omega (arith, c .before .before .before .before .even .ensures, c .before .before .before .if2 .left) in
+    let up = sym (ap (λ k. k .ascending) e) ∙ not-false (a .checked .ascending) (c .before .if3 .left) in
+    c .search .ensures up
+    ∙ ap (λ n. found (ok (lastUpTo (entries (a .pdata .now)) (n - a .image)))) (c .before .before .before .before .even .ensures)
+    ∙ ap found (sym (find-sorted (a .image) (a .pdata .now) (a .pc) (sym (ap (λ k. k .whole) e) ∙ not-false (a .checked .whole) (c .before .before .before .before .before .if1 .left)) above up))
+
+pub find-in-spec : {M : Type 1} → statement M
+find-in-spec =
+    tie.close
+    (tie.spec
+    refused-requires
+    returns
+    even-requires
+    refused-requires-2
+    returns-2
+    refused-requires-3
+    returns-3
+    search-requires
+    returns-4)

@@ -1,0 +1,98 @@
+-- The loop's invariant: the record below `low` starts at or below the RVA, and that at `high` above it; where the two meet, an ascending table
+-- has the definition's record there. Assumes nothing.
+use Prim.Native.Nat.{_+_, _-_, _/_, _≤_, _<_}
+use mathlib.Core.Path.{sym, ap, _∙_, _≡_}
+use lib.ListN.{length}
+use native.Mathlib.Omega.{arith}
+use borrow.Author.Needs.{needs}
+use Rattle.words.specs.Answer.{ok}
+use Rattle.pdata.specs.Pdata.{found}
+use Rattle.pdata.specs.declared.Found.the-variants.{Record}
+use Rattle.pdata.proofs.Finding.{startAt, found-none, found-some}
+use Rattle.pdata.proofs.search.Statement.{statement}
+use Rattle.pdata.proofs.search.Tie as tie
+
+abbrev Inv-loop : tie.InvT-loop
+Inv-loop pdata rva low₀ high₀ low high = (low ≤ high) × (high ≤ length pdata / 8) × (0 < low → startAt pdata (low - 1) ≤ rva) × (high < length pdata / 8 → rva < startAt pdata high)
+
+abbrev μ-loop : tie.MeasureT-loop
+μ-loop pdata rva low₀ high₀ low high = high - low
+
+records-requires : tie.Need-records-requires Inv-loop μ-loop
+records-requires c κs = search needs
+
+loop-holds : tie.Need-loop-holds Inv-loop μ-loop
+loop-holds c = search needs
+
+sub-mid : tie.Need-sub-mid Inv-loop μ-loop
+sub-mid c = search needs
+
+add-mid : tie.Need-add-mid Inv-loop μ-loop
+add-mid c = search needs
+
+start-at-requires : tie.Need-start-at-requires Inv-loop μ-loop
+start-at-requires c κs = search needs
+
+add-low : tie.Need-add-low Inv-loop μ-loop
+add-low c = search needs
+
+loop-less : tie.Need-loop-less Inv-loop μ-loop
+loop-less c = search needs
+
+loop-again : tie.Need-loop-again Inv-loop μ-loop
+loop-again c =
+    let s = c .before .before .before .before .before .before .args .pdata .now in
+    let l = c .before .before .before .loop in
+    let mid = l .low + (l .high - l .low) / 2 in
+    let e : mid + 1 - 1 ≡ mid = omega arith in
+    (omega arith, omega arith, λ q. rw e (omega (arith, c .if1 .taken, c .before .start-at .ensures)), l .inv .3)
+
+loop-less-2 : tie.Need-loop-less-2 Inv-loop μ-loop
+loop-less-2 c = search needs
+
+loop-again-2 : tie.Need-loop-again-2 Inv-loop μ-loop
+loop-again-2 c =
+    let l = c .before .before .before .loop in
+    (omega arith, omega arith, l .inv .2, λ q. omega (arith, c .if1 .left, c .before .start-at .ensures))
+
+returns : tie.Need-returns Inv-loop μ-loop
+returns c up =
+    let a = c .before .before .before .before .before .args in
+    let l = c .before .before .loop in
+    let z : l .high ≡ 0 = omega arith in
+    ap (λ o. found (ok o)) (sym (found-none (a .pdata .now) (a .rva) up (λ q. rw z at (l .inv .3 (omega arith)))))
+
+sub-entry-at : tie.Need-sub-entry-at Inv-loop μ-loop
+sub-entry-at c = search needs
+
+entry-at-requires : tie.Need-entry-at-requires Inv-loop μ-loop
+entry-at-requires c κs = search needs
+
+returns-2 : tie.Need-returns-2 Inv-loop μ-loop
+returns-2 c up =
+    let a = c .before .before .before .before .before .before .args in
+    let l = c .before .before .before .loop in
+    let e : l .low - 1 + 1 ≡ l .high = omega arith in
+    ap Record (c .entry-at .ensures)
+    ∙ ap (λ o. found (ok o)) (sym (found-some (a .pdata .now) (a .rva) (l .low - 1) (omega arith) up (l .inv .2 (omega arith)) (λ q. rw e (l .inv .3 (omega arith)))))
+
+pub search-spec : {M : Type 1} → statement M
+search-spec =
+    tie.close
+    (tie.spec
+    Inv-loop
+    μ-loop
+    records-requires
+    loop-holds
+    sub-mid
+    add-mid
+    start-at-requires
+    add-low
+    loop-less
+    loop-again
+    loop-less-2
+    loop-again-2
+    returns
+    sub-entry-at
+    entry-at-requires
+    returns-2)

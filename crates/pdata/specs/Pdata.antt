@@ -1,0 +1,51 @@
+-- The .pdata: 8 bytes a record; word 0 the start RVA, word 1 a packed word or the RVA of an .xdata record.
+use Prim.Native.Nat.{ℕ, zero, suc, _+_, _-_, _*_, _/_, _%_}
+use mathlib.Core.List.{List, _∷_, map, []}
+use mathlib.Core.Option.{Option, none, some}
+use lib.ListN.{length}
+use lib.Dec.{leb, eqb}
+use Rattle.words.specs.Bits.{even}
+use Rattle.words.specs.Little.{word32}
+use Rattle.words.specs.declared.Refusal.the-variants.{UnfitInput, PcBelowBase, StartsNotAscending}
+use Rattle.words.specs.Answer.{Res, ok, need, if_then_else_, either, maybe, _>>=_, _>>_}
+use Rattle.unwinding.specs.View.{ascending}
+use Rattle.pdata.specs.declared.Entry.{Entry}
+use Rattle.pdata.specs.declared.Found.{Found}
+use Rattle.pdata.specs.declared.Sound.{Sound}
+use Rattle.pdata.specs.declared.Found.the-variants.{Record, Nothing, Refused}
+
+-- n records, the first of which has this number
+unfoldable pub entriesFrom : List ℕ → (number n : ℕ) → List Entry
+entriesFrom s i zero = []
+entriesFrom s i (suc n) =
+    record { number = i; start = even (word32 s (8 * i)); word = word32 s (8 * i + 4) } ∷ entriesFrom s (i + 1) n
+
+abbrev pub entries : List ℕ → List Entry
+entries s = entriesFrom s 0 (length s / 8)
+
+-- "the record with the greatest start not above the pc", which in an ascending table is the last such
+unfoldable pub lastUpTo : List Entry → (rva : ℕ) → Option Entry
+lastUpTo [] a = none
+lastUpTo (e ∷ es) a = maybe (lastUpTo es a) (if leb (e .start) a then some e else none) some
+
+-- finding the record for a pc: 1 for the length, 2, 3, and then the record or none
+unfoldable pub find : (image : ℕ) → (pdata : List ℕ) → (pc : ℕ) → Res (Option Entry)
+find image s pc = do
+  need (eqb (length s % 8) 0) UnfitInput
+  need (leb image (even pc)) PcBelowBase
+  need (ascending (map (λ e. e .start) (entries s))) StartsNotAscending
+  ok (lastUpTo (entries s) (even pc - image))
+
+abbrev pub found : Res (Option Entry) → Found
+found r = either r Refused (λ e. maybe e Nothing Record)
+
+-- the record of a number
+abbrev pub entryAt : List ℕ → ℕ → Entry
+entryAt s i = record { number = i; start = even (word32 s (8 * i)); word = word32 s (8 * i + 4) }
+
+abbrev pub starts : List ℕ → List ℕ
+starts s = map (λ e. e .start) (entries s)
+
+-- what finding asks of the table alone, and so once for a walk: 1 for its length and 3
+abbrev pub sound : List ℕ → Sound
+sound s = record { whole = eqb (length s % 8) 0; ascending = ascending (starts s) }

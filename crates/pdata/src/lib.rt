@@ -1,0 +1,146 @@
+// The .pdata: its records, its order, and the record for a pc.
+use words::Refusal;
+ghost use mathlib.Core.Path.{_≡_};
+ghost use mathlib.Core.Bool.{true};
+ghost use Prim.Native.Nat.{_+_, _*_, _/_, _<_, _-_, _%_};
+ghost use lib.ListN.{length};
+ghost use Rattle.words.specs.Bits.{even as evenOf};
+ghost use Rattle.words.specs.Little.{word32};
+ghost use Rattle.words.specs.Answer.{ok, refuse};
+ghost use Rattle.unwinding.specs.View.{ascending as ascendingOf};
+ghost use Rattle.pdata.specs.Pdata.{entries, entryAt, starts, lastUpTo, find as findOf, found, sound};
+
+// A .pdata record: its number in the table, its start RVA with bit 0 cleared, and its word 1.
+pub struct Entry {
+    pub number: usize,
+    pub start: u32,
+    pub word: u32,
+}
+
+// The record for a pc.
+pub enum Found {
+    Record(Entry),
+    Nothing,
+    Refused(Refusal),
+}
+
+// What finding asks of the .pdata alone: its length is a multiple of 8, its starts strictly ascend.
+pub struct Sound {
+    pub whole: bool,
+    pub ascending: bool,
+}
+
+// The number of records.
+pub fn records(pdata: &[u8]) -> usize
+    ensures { λ r. ⌜ r ≡ length (now (pdata .entry)) / 8 ⌝ }
+{
+    pdata.len() / 8
+}
+
+// The word at 8 x i + k; 0 past the end.
+fn word_of(pdata: &[u8], i: usize, k: usize) -> u32
+    requires { ⌜ k < 8 ⌝ }
+    ensures { λ r. ⌜ r ≡ word32 (now (pdata .entry)) (8 * i + k) ⌝ }
+{
+    if pdata.len() / 8 < i {
+        return 0;
+    }
+    words::word32(pdata, 8 * i + k)
+}
+
+// The start of record i, with bit 0 cleared.
+fn start_at(pdata: &[u8], i: usize) -> u32
+    ensures { λ r. ⌜ r ≡ evenOf (word32 (now (pdata .entry)) (8 * i)) ⌝ }
+{
+    words::even(word_of(pdata, i, 0))
+}
+
+// Record i.
+pub fn entry_at(pdata: &[u8], i: usize) -> Entry
+    ensures { λ r. ⌜ r ≡ entryAt (now (pdata .entry)) i ⌝ }
+{
+    Entry {
+        number: i,
+        start: start_at(pdata, i),
+        word: word_of(pdata, i, 4),
+    }
+}
+
+// Whether the starts of the whole table strictly ascend.
+pub fn ascending(pdata: &[u8]) -> bool
+    ensures { λ r. ⌜ r ≡ ascendingOf (starts (now (pdata .entry))) ⌝ }
+{
+    let n = records(pdata);
+    let mut i = 0;
+    let mut last = start_at(pdata, 0);
+    while i + 1 < n {
+        let next = start_at(pdata, i + 1);
+        if next <= last {
+            return false;
+        }
+        last = next;
+        i += 1;
+    }
+    true
+}
+
+// The last record that starts at or below an RVA, by halving, in a table that ascends.
+fn search(pdata: &[u8], rva: u32) -> Found
+    ensures { λ r. ⌜ (ascendingOf (starts (now (pdata .entry))) ≡ true → r ≡ found (ok (lastUpTo (entries (now (pdata .entry))) rva))) ⌝ }
+{
+    let mut low = 0;
+    let mut high = records(pdata);
+    while low < high {
+        let mid = low + (high - low) / 2;
+        if start_at(pdata, mid) <= rva {
+            low = mid + 1;
+        } else {
+            high = mid;
+        }
+    }
+    if low == 0 {
+        return Found::Nothing;
+    }
+    Found::Record(entry_at(pdata, low - 1))
+}
+
+// What finding asks of the table alone: a walk asks it once.
+pub fn check(pdata: &[u8]) -> Sound
+    ensures { λ r. ⌜ r ≡ sound (now (pdata .entry)) ⌝ }
+{
+    Sound {
+        whole: pdata.len() % 8 == 0,
+        ascending: ascending(pdata),
+    }
+}
+
+// A refused finding.
+fn refused(why: Refusal) -> Found
+    ensures { λ r. ⌜ r ≡ found (refuse why) ⌝ }
+{
+    Found::Refused(why)
+}
+
+// Finding in a table that was checked, as a walk does for each frame: 1 for the length, 2, 3, and then the record or none.
+pub fn find_in(checked: Sound, image: u32, pdata: &[u8], pc: u32) -> Found
+    ensures { λ r. ⌜ (checked ≡ sound (now (pdata .entry)) → r ≡ found (findOf image (now (pdata .entry)) pc)) ⌝ }
+{
+    if !checked.whole {
+        return refused(Refusal::UnfitInput);
+    }
+    let at = words::even(pc);
+    if at < image {
+        return refused(Refusal::PcBelowBase);
+    }
+    if !checked.ascending {
+        return refused(Refusal::StartsNotAscending);
+    }
+    search(pdata, at - image)
+}
+
+// Finding the record for a pc.
+pub fn find(image: u32, pdata: &[u8], pc: u32) -> Found
+    ensures { λ r. ⌜ r ≡ found (findOf image (now (pdata .entry)) pc) ⌝ }
+{
+    find_in(check(pdata), image, pdata, pc)
+}

@@ -1,0 +1,265 @@
+-- The plan of a record is its shape: refused where the definition's shape is, and else the same shape of the plan, the code bytes and the
+-- .xdata; the code bytes lie inside it.
+-- Assumes nothing.
+use Prim.Native.Nat.{ℕ, zero, suc, _+_, _-_, _*_, _≤_, _<_}
+use mathlib.Core.Path.{_≡_, refl, sym, ap, ap₂, _∙_}
+use mathlib.Core.Bool.{Bool, true, false, _&&_}
+use mathlib.Core.List.{List, _∷_, []}
+use lib.ListN.{length, take, drop}
+use lib.Dec.{eqb, leb}
+use native.Mathlib.Omega.{arith}
+use borrow.Author.Tests.{eq-eqb, ne-eqb, leb-true}
+use Rattle.words.specs.Bits.{bits}
+use Rattle.words.specs.Lent.{Lent, lent, holds, wordAt}
+use Rattle.words.specs.Little.{word32}
+use Rattle.words.specs.Units.{codeBytes, codeWordBytes, halfwordBytes}
+use Rattle.words.specs.declared.Refusal.{Refusal}
+use Rattle.words.specs.declared.Refusal.the-variants.{Reserved}
+use Rattle.words.specs.declared.CodeBytes.{CodeBytes}
+use Rattle.words.specs.Answer.{Res, ok, refuse, need, _>>_, _>>=_, if_then_else_}
+use Rattle.unwinding.specs.Shape.{Shape}
+use Rattle.unwinding.specs.declared.Scope.{Scope}
+use Rattle.xdata.specs.Xdata.{E, F, scopeCount, codesOffset, recordBytes, headAt}
+use Rattle.packed.specs.Packed.{fields}
+use Rattle.packed_codes.specs.PackedCodes.{writeCodes}
+use Rattle.record.specs.Record.{lastScope, fullShape, packedShape, shapeOf}
+use Rattle.xdata.specs.Scopes.{scopeOf, scopesAt}
+use Rattle.record.specs.as_coded.Plan.{scopeIn, scopesFrom, scopesOf, planOf, fullBy, afterHead, fullPlan, fullAnswer, shapeBy, fullShapeBy, packedPlanBy, packedBy, packedPlan, packedAnswer, packedShapeBy}
+use Rattle.xdata.specs.as_coded.Scopes.{resZero}
+use Rattle.xdata.specs.declared.Head.{Head}
+use Rattle.record.specs.declared.Scopes.{Scopes}
+use Rattle.record.specs.declared.Scopes.the-variants.{Ending, Listed}
+use Rattle.record.specs.declared.FullOf.{FullOf}
+use Rattle.packed.specs.declared.Packed.{Packed}
+use Rattle.packed_codes.specs.declared.CodesOf.{CodesOf}
+use Rattle.record.specs.declared.PackedOf.{PackedOf}
+use Rattle.pdata.specs.declared.Entry.{Entry}
+use Rattle.record.specs.Record as Record
+use Rattle.words.proofs.Tests.{if-true, if-false}
+use Rattle.xdata.proofs.Heads.{head-small}
+
+-- a plan's scopes, one after another: what a loop over them cites
+pub scopes-all : (c : Scopes) (s : List ℕ) (n : ℕ) → scopesFrom c s 0 n ≡ scopesFrom c s 0 (n - 0)
+scopes-all c s n = let e : n ≡ n - 0 = omega arith in ap (scopesFrom c s 0) e
+
+pub scopes-done : (c : Scopes) (s : List ℕ) (k n : ℕ) → n ≤ k → scopesFrom c s k (n - k) ≡ []
+unfolding scopesFrom
+scopes-done c s k n h = let e : n - k ≡ 0 = omega arith in rw e refl
+
+pub scopes-next :
+    (c : Scopes) (s : List ℕ) (k n : ℕ) → k < n → scopesFrom c s k (n - k) ≡ scopeIn c s k ∷ scopesFrom c s (k + 1) (n - (k + 1))
+unfolding scopesFrom
+scopes-next c s k n h = let e : n - k ≡ suc (n - (k + 1)) = omega arith in rw e refl
+
+-- one scope word before others
+unfoldable stepBy : ℕ → Res (List Scope) → Res (List Scope)
+stepBy w rest = need (eqb (bits 18 2 w) 0) Reserved >> (rest >>= λ l. ok (scopeOf w ∷ l))
+
+step-is : (x : Lent) (a n : ℕ) → scopesAt x a (suc n) ≡ stepBy (wordAt x a) (scopesAt x (a + 4) n)
+unfolding scopesAt stepBy
+step-is x a n = refl
+
+step-by :
+    (w : ℕ) (u : Bool) (l : List Scope)
+    → stepBy w (if u then ok l else refuse Reserved) ≡ (if eqb (bits 18 2 w) 0 && u then ok (scopeOf w ∷ l) else refuse Reserved)
+unfolding stepBy
+step-by w u l = go (eqb (bits 18 2 w) 0) u
+  where
+    go :
+        (t u : Bool)
+        → (need t Reserved >> ((if u then ok l else refuse Reserved) >>= λ l. ok (scopeOf w ∷ l)))
+        ≡ (if t && u then ok (scopeOf w ∷ l) else refuse Reserved)
+    go true true = refl
+    go true false = refl
+    go false u = refl
+
+-- scope words in the .xdata: listed where each has Res 0, and else refused
+scopes-listed :
+    (b : ℕ) (s : List ℕ) (o n k a : ℕ) → a ≡ b + o + 4 * k
+    → scopesAt (lent b s) a n ≡ (if resZero s o k n then ok (scopesFrom (Listed o) s k n) else refuse Reserved)
+unfolding scopesAt resZero scopesFrom
+scopes-listed b s o zero k a e = refl
+scopes-listed b s o (suc n) k a e =
+    let at : a - b ≡ o + 4 * k = omega arith in
+    step-is (lent b s) a n ∙ ap₂ stepBy (ap (word32 s) at) (scopes-listed b s o n (k + 1) (a + 4) (omega arith))
+    ∙ step-by (word32 s (o + 4 * k)) (resZero s o (k + 1) n) (scopesFrom (Listed o) s (k + 1) n)
+
+-- the record of a head, by the test of Res
+module _ (b : ℕ) (s : List ℕ) (a : ℕ) (h : Head) (above : b ≤ a) where
+  scopes-are :
+      scopesAt (lent b s) (a + h .bytes) (scopeCount h)
+      ≡ (if resZero s (a - b + h .bytes) 0 (scopeCount h) then ok (scopesFrom (Listed (a - b + h .bytes)) s 0 (scopeCount h)) else refuse Reserved)
+  scopes-are = scopes-listed b s (a - b + h .bytes) (scopeCount h) 0 (a + h .bytes) (omega arith)
+
+  scopes-given :
+      resZero s (a - b + h .bytes) 0 (scopeCount h) ≡ true
+      → scopesAt (lent b s) (a + h .bytes) (scopeCount h) ≡ ok (scopesFrom (Listed (a - b + h .bytes)) s 0 (scopeCount h))
+  scopes-given t = scopes-are ∙ sym (if-true _ _ t)
+
+  scopes-refused :
+      resZero s (a - b + h .bytes) 0 (scopeCount h) ≡ false → scopesAt (lent b s) (a + h .bytes) (scopeCount h) ≡ refuse Reserved
+  scopes-refused t = scopes-are ∙ sym (if-false _ _ t)
+
+  pub after-given :
+      resZero s (a - b + h .bytes) 0 (scopeCount h) ≡ true → afterHead (lent b s) a h ≡ ok (fullBy (lent b s) a h)
+  after-given t = ap (λ r. r >>= λ l. ok (fullBy (lent b s) a h)) (scopes-given t)
+
+  pub after-refused : resZero s (a - b + h .bytes) 0 (scopeCount h) ≡ false → afterHead (lent b s) a h ≡ refuse Reserved
+  after-refused t = ap (λ r. r >>= λ l. ok (fullBy (lent b s) a h)) (scopes-refused t)
+
+pub plan-given : (x : Lent) (a : ℕ) (h : Head) → headAt x a ≡ ok h → fullPlan x a ≡ afterHead x a h
+unfolding fullPlan
+plan-given x a h e = rw e refl
+
+pub plan-refused : (x : Lent) (a : ℕ) (why : Refusal) → headAt x a ≡ refuse why → fullPlan x a ≡ refuse why
+unfolding fullPlan
+plan-refused x a why e = rw e refl
+
+-- what is lent stands at or above the base, and within the bytes
+lent-above : (x : Lent) (a n : ℕ) → holds x a n ≡ true → (x .base ≤ a) × (a + n ≤ x .base + length (x .bytes))
+lent-above x a n h = go (leb (x .base) a) refl h
+  where
+    go :
+        (t : Bool) → leb (x .base) a ≡ t → (t && leb (a + n) (x .base + length (x .bytes))) ≡ true
+        → (x .base ≤ a) × (a + n ≤ x .base + length (x .bytes))
+    go true e q = (leb-true (x .base) a e, leb-true (a + n) (x .base + length (x .bytes)) q)
+    go false e q = absurd (let z : _≡_ {A = ℕ} 0 1 = cc in omega arith)
+
+pub head-above : (x : Lent) (a : ℕ) (h : Head) → headAt x a ≡ ok h → x .base ≤ a
+head-above x a h e = lent-above x a (recordBytes h) (head-small x a h e .lent) .0
+
+-- a head's scopes are the plan's
+plan-scopes :
+    (o : ℕ) (s : List ℕ) (h : Head)
+    → (if E h then lastScope (codeBytes (h .count)) ∷ [] else scopesFrom (Listed (o + h .bytes)) s 0 (scopeCount h))
+    ≡ scopesFrom (scopesOf o h) s 0 (if E h then 1 else h .count)
+unfolding scopesFrom
+plan-scopes o s h = go (E h)
+  where
+    go :
+        (e : Bool)
+        → (if e then lastScope (codeBytes (h .count)) ∷ [] else scopesFrom (Listed (o + h .bytes)) s 0 (if e then 0 else h .count))
+        ≡ scopesFrom (if e then Ending (codeBytes (h .count)) else Listed (o + h .bytes)) s 0 (if e then 1 else h .count)
+    go true = refl
+    go false = refl
+
+-- the shape of a record whose head was read and whose scopes are listed
+plan-shape :
+    (b : ℕ) (s : List ℕ) (a : ℕ) (h : Head) → b ≤ a
+    → Record.fullOf (lent b s) a h (scopesFrom (Listed (a - b + h .bytes)) s 0 (scopeCount h))
+    ≡ shapeBy (planOf (lent b s) a h) (take (codeWordBytes (h .codewords) .0) (drop (a - b + codesOffset h) s)) s
+plan-shape b s a h above =
+    let from : a + codesOffset h - b ≡ a - b + codesOffset h = omega arith in
+    λ i. record { span = planOf (lent b s) a h .span; codes = take (codeWordBytes (h .codewords) .0) (drop (from i) s); fragment = F h; scopes = plan-scopes (a - b) s h i; handler = planOf (lent b s) a h .handler }
+
+shape-refused : (x : Lent) (a : ℕ) (why : Refusal) → headAt x a ≡ refuse why → fullShape x a ≡ refuse why
+unfolding fullShape
+shape-refused x a why e = rw e refl
+
+shape-by :
+    (x : Lent) (a : ℕ) (h : Head) → headAt x a ≡ ok h
+    → fullShape x a ≡ (scopesAt x (a + h .bytes) (scopeCount h) >>= λ l. ok (Record.fullOf x a h l))
+unfolding fullShape
+shape-by x a h e = rw e refl
+
+-- what the answer of a full record is: a refusal, or the plan of a head that was read
+data Outcome (b : ℕ) (s : List ℕ) (a : ℕ) (f : FullOf) : Type 0 where
+  refused : (why : Refusal) → f ≡ fullAnswer (refuse why) → fullShape (lent b s) a ≡ refuse why → Outcome b s a f
+  given :
+      (h : Head) → headAt (lent b s) a ≡ ok h → f ≡ fullBy (lent b s) a h
+      → fullShape (lent b s) a ≡ ok (Record.fullOf (lent b s) a h (scopesFrom (Listed (a - b + h .bytes)) s 0 (scopeCount h)))
+      → Outcome b s a f
+
+module _ (b : ℕ) (s : List ℕ) (a : ℕ) (f : FullOf) (is : f ≡ fullAnswer (fullPlan (lent b s) a)) where
+  by-scopes : (h : Head) → headAt (lent b s) a ≡ ok h → Outcome b s a f
+  by-scopes h e = go (resZero s (a - b + h .bytes) 0 (scopeCount h)) refl
+    where
+      above : b ≤ a
+      above = head-above (lent b s) a h e
+
+      go : (t : Bool) → resZero s (a - b + h .bytes) 0 (scopeCount h) ≡ t → Outcome b s a f
+      go true t =
+          given h e (is ∙ ap fullAnswer (plan-given (lent b s) a h e ∙ after-given b s a h above t))
+          (shape-by (lent b s) a h e ∙ ap (λ r. r >>= λ l. ok (Record.fullOf (lent b s) a h l)) (scopes-given b s a h above t))
+      go false t =
+          refused Reserved (is ∙ ap fullAnswer (plan-given (lent b s) a h e ∙ after-refused b s a h above t))
+          (shape-by (lent b s) a h e ∙ ap (λ r. r >>= λ l. ok (Record.fullOf (lent b s) a h l)) (scopes-refused b s a h above t))
+
+  outcome : Outcome b s a f
+  outcome = go (headAt (lent b s) a) refl
+    where
+      go : (r : Res Head) → headAt (lent b s) a ≡ r → Outcome b s a f
+      go (ok h) e = by-scopes h e
+      go (refuse why) e = refused why (is ∙ ap fullAnswer (plan-refused (lent b s) a why e)) (shape-refused (lent b s) a why e)
+
+  -- the answer of `full` is the definition's shape, or its refusal
+  pub full-shape : fullShape (lent b s) a ≡ fullShapeBy f s
+  full-shape = go outcome
+    where
+      go : Outcome b s a f → fullShape (lent b s) a ≡ fullShapeBy f s
+      go (refused why p q) = q ∙ sym (ap (λ f. fullShapeBy f s) p)
+      go (given h e p q) = q ∙ ap ok (plan-shape b s a h (head-above (lent b s) a h e)) ∙ sym (ap (λ f. fullShapeBy f s) p)
+
+  -- and its code bytes are in the .xdata
+  pub full-inside : f .codes .start + f .codes .len ≤ length s
+  full-inside = go outcome
+    where
+      go : Outcome b s a f → f .codes .start + f .codes .len ≤ length s
+      go (refused why p q) = rw p (omega arith)
+      go (given h e p q) = rw p (omega (arith, lent-above (lent b s) a (recordBytes h) (head-small (lent b s) a h e .lent)))
+
+  -- of which there are at most 255 words
+  pub full-few : f .codes .len ≤ 1020
+  full-few = go outcome
+    where
+      go : Outcome b s a f → f .codes .len ≤ 1020
+      go (refused why p q) = rw p (omega arith)
+      go (given h e p q) = rw p (omega (arith, head-small (lent b s) a h e .codewords))
+
+-- a packed record's epilogue is the plan's
+packed-scopes :
+    (p : Packed) (i : CodeBytes) (s : List ℕ)
+    → (if eqb (p .ret) 3 then [] else lastScope i ∷ []) ≡ scopesFrom (Ending i) s 0 (if eqb (p .ret) 3 then 0 else 1)
+unfolding scopesFrom
+packed-scopes p i s = go (eqb (p .ret) 3)
+  where
+    go : (t : Bool) → (if t then [] else lastScope i ∷ []) ≡ scopesFrom (Ending i) s 0 (if t then 0 else 1)
+    go true = refl
+    go false = refl
+
+pub packed-given : (w : ℕ) (c : CodesOf) → writeCodes w ≡ ok c → packedPlan w ≡ ok (packedBy w c)
+unfolding packedPlan
+packed-given w c e = rw e refl
+
+pub packed-refused : (w : ℕ) (why : Refusal) → writeCodes w ≡ refuse why → packedPlan w ≡ refuse why
+unfolding packedPlan
+packed-refused w why e = rw e refl
+
+packed-shape-given :
+    (w : ℕ) (s : List ℕ) (c : CodesOf) → writeCodes w ≡ ok c
+    → packedShape w ≡ ok (shapeBy (packedPlanBy (fields w) (c .first)) (c .bytes) s)
+unfolding packedShape
+packed-shape-given w s c e =
+    let p = fields w in
+    let shape : (scopes : List Scope) → Shape = λ l. record { span = halfwordBytes (p .length); codes = c .bytes; fragment = eqb (p .flag) 2; scopes = l; handler = 0 } in
+    rw e (ap (λ l. ok (shape l)) (packed-scopes p (c .first) s))
+
+packed-shape-refused : (w : ℕ) (why : Refusal) → writeCodes w ≡ refuse why → packedShape w ≡ refuse why
+unfolding packedShape
+packed-shape-refused w why e = rw e refl
+
+-- the answer of a packed record's plan is the definition's shape, or its refusal, beside any .xdata
+pub packed-shape : (w : ℕ) (s : List ℕ) (f : PackedOf) → f ≡ packedAnswer (packedPlan w) → packedShape w ≡ packedShapeBy f s
+packed-shape w s f is = go (writeCodes w) refl
+  where
+    go : (r : Res CodesOf) → writeCodes w ≡ r → packedShape w ≡ packedShapeBy f s
+    go (ok c) e = packed-shape-given w s c e ∙ sym (ap (λ f. packedShapeBy f s) (is ∙ ap packedAnswer (packed-given w c e)))
+    go (refuse why) e =
+        packed-shape-refused w why e ∙ sym (ap (λ f. packedShapeBy f s) (is ∙ ap packedAnswer (packed-refused w why e)))
+
+-- the shape of a .pdata record, by its Flag
+pub shape-full : (x : Lent) (e : Entry) → bits 0 2 (e .word) ≡ 0 → shapeOf x e ≡ fullShape x (e .word)
+shape-full x e h = rw (eq-eqb (bits 0 2 (e .word)) 0 h) refl
+
+pub shape-packed : (x : Lent) (e : Entry) → (bits 0 2 (e .word) ≡ 0 → ⊥) → shapeOf x e ≡ packedShape (e .word)
+shape-packed x e h = rw (ne-eqb (bits 0 2 (e .word)) 0 h) refl

@@ -1,0 +1,51 @@
+-- By the head's verdict; a head that is given stands at or above the .xdata's RVA. Assumes nothing.
+use mathlib.Core.Path.{sym, ap, _∙_}
+use borrow.Author.Needs.{needs}
+use Rattle.words.specs.Lent.{lent}
+use Rattle.record.specs.as_coded.Plan.{fullAnswer}
+use Rattle.xdata.specs.Xdata.{headAt}
+use Rattle.record.proofs.Shapes.{plan-given, plan-refused, head-above}
+use Rattle.xdata.proofs.Heads.{read-given, read-refused}
+use Rattle.record.proofs.full.Statement.{statement}
+use Rattle.record.proofs.full.Tie as tie
+
+head-at-requires : tie.Need-head-at-requires
+head-at-requires c κs = search needs
+
+enum-told : tie.Need-enum-told
+enum-told c = search needs
+
+after-head-requires : tie.Need-after-head-requires
+after-head-requires c κs =
+    let a = c .before .before .before .before .args in
+    head-above (lent (a .rva) (a .xdata .now)) (a .at) (c .before .before .head-at .result .head) (read-given (headAt (lent (a .rva) (a .xdata .now)) (a .at)) (c .before .before .head-at .result) (c .before .before .head-at .ensures) (c .enum-told .given .1))
+
+enum-known-verdict : tie.Need-enum-known-verdict
+enum-known-verdict c = search needs
+
+no-full-requires : tie.Need-no-full-requires
+no-full-requires c κs = search needs
+
+returns : tie.Need-returns
+returns c =
+    let a = c .before .before .before .before .before .args in
+    c .after-head .ensures
+    ∙ ap fullAnswer (sym (plan-given (lent (a .rva) (a .xdata .now)) (a .at) (c .before .before .before .head-at .result .head) (read-given (headAt (lent (a .rva) (a .xdata .now)) (a .at)) (c .before .before .before .head-at .result) (c .before .before .before .head-at .ensures) (c .before .enum-told .given .1))))
+
+returns-2 : tie.Need-returns-2
+returns-2 c =
+    let a = c .before .before .before .before .before .before .args in
+    c .no-full .ensures
+    ∙ ap fullAnswer (sym (plan-refused (lent (a .rva) (a .xdata .now)) (a .at) _ (read-refused (headAt (lent (a .rva) (a .xdata .now)) (a .at)) (c .before .before .before .before .head-at .result) _ (c .before .before .before .before .head-at .ensures) (c .before .before .verdict .given .1))))
+
+pub full-spec : {M : Type 1} → statement M
+full-spec =
+    tie.close
+    (tie.spec
+    head-at-requires
+    enum-told
+    after-head-requires
+    enum-known-verdict
+    no-full-requires
+    returns
+    returns-2)

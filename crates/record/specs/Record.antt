@@ -1,0 +1,46 @@
+-- The shape of a .pdata record, packed or full.
+use Prim.Native.Nat.{ℕ, _+_, _-_}
+use mathlib.Core.List.{List, _∷_, []}
+use lib.ListN.{take, drop}
+use lib.Dec.{eqb}
+use Rattle.words.specs.Bits.{bits}
+use Rattle.words.specs.Lent.{Lent}
+use Rattle.words.specs.Units.{halfwordBytes, codeBytes, codeWordBytes}
+use Rattle.words.specs.declared.CodeBytes.{CodeBytes}
+use Rattle.words.specs.Answer.{Res, ok, if_then_else_, _>>=_, _>>_}
+use Rattle.unwinding.specs.Shape.{Shape}
+use Rattle.unwinding.specs.Todo.{always}
+use Rattle.unwinding.specs.declared.Scope.{Scope}
+use Rattle.unwinding.specs.declared.Start.the-variants.{Ending}
+use Rattle.packed.specs.Packed.{fields}
+use Rattle.packed_codes.specs.PackedCodes.{writeCodes}
+use Rattle.xdata.specs.Xdata.{E, F, scopeCount, codesOffset, spanOf, handlerAt, headAt}
+use Rattle.xdata.specs.Scopes.{scopesAt}
+use Rattle.xdata.specs.declared.Head.{Head}
+use Rattle.pdata.specs.declared.Entry.{Entry}
+
+-- an unconditional epilogue that ends at the function's end
+abbrev pub lastScope : CodeBytes → Scope
+lastScope i = record { start = Ending; condition = always; index = i }
+
+-- a full record at an RVA whose head and scopes have been read
+abbrev pub fullOf : Lent → ℕ → Head → List Scope → Shape
+fullOf x a h listed =
+    record { span = spanOf (h .word); codes = take (codeWordBytes (h .codewords) .0) (drop (a + codesOffset h - x .base) (x .bytes)); fragment = F h; scopes = if E h then lastScope (codeBytes (h .count)) ∷ [] else listed; handler = handlerAt x a h }
+
+unfoldable pub fullShape : Lent → ℕ → Res Shape
+fullShape x a = do
+  h ← headAt x a
+  listed ← scopesAt x (a + h .bytes) (scopeCount h)
+  ok (fullOf x a h listed)
+
+-- a packed record is the record of the codes that its writer writes, with one epilogue at the function's end unless Ret=3
+unfoldable pub packedShape : ℕ → Res Shape
+packedShape w = do
+  c ← writeCodes w
+  let p = fields w
+  ok (record { span = halfwordBytes (p .length); codes = c .bytes; fragment = eqb (p .flag) 2; scopes = if eqb (p .ret) 3 then [] else lastScope (c .first) ∷ []; handler = 0 })
+
+-- "Flag (0: the word is the xdata RVA; 1 packed; 2 packed without prologue)"
+abbrev pub shapeOf : Lent → Entry → Res Shape
+shapeOf x e = if eqb (bits 0 2 (e .word)) 0 then fullShape x (e .word) else packedShape (e .word)

@@ -1,0 +1,103 @@
+-- A record's shape as plain values and parts of slices: the plan of a full record and of a packed one, and the shape that a plan stands
+-- for, beside the code bytes and the .xdata.
+use Prim.Native.Nat.{ℕ, zero, suc, _+_, _-_, _*_}
+use mathlib.Core.List.{List, _∷_, []}
+use mathlib.Core.Bool.{false}
+use lib.ListN.{take, drop, replicate}
+use lib.Dec.{eqb}
+use Rattle.words.specs.Lent.{Lent}
+use Rattle.words.specs.Little.{word32}
+use Rattle.words.specs.Units.{halfwordBytes, codeBytes, codeWordBytes}
+use Rattle.words.specs.declared.CodeBytes.{CodeBytes}
+use Rattle.words.specs.declared.Verdict.{Verdict}
+use Rattle.words.specs.declared.Verdict.the-variants.{Given, Refused}
+use Rattle.words.specs.Answer.{Res, ok, refuse, if_then_else_, _>>=_, _>>_}
+use Rattle.unwinding.specs.Shape.{Shape}
+use Rattle.unwinding.specs.declared.Scope.{Scope}
+use Rattle.xdata.specs.Xdata.{E, F, scopeCount, codesOffset, spanOf, handlerAt, headAt}
+use Rattle.packed.specs.Packed.{fields}
+use Rattle.packed_codes.specs.PackedCodes.{writeCodes}
+use Rattle.record.specs.Record.{lastScope}
+use Rattle.xdata.specs.Scopes.{scopeOf, scopesAt}
+use Rattle.xdata.specs.declared.Head.{Head}
+use Rattle.packed.specs.declared.Packed.{Packed}
+use Rattle.packed_codes.specs.declared.CodesOf.{CodesOf}
+use Rattle.record.specs.declared.Scopes.{Scopes}
+use Rattle.record.specs.declared.Scopes.the-variants.{Ending, Listed}
+use Rattle.record.specs.declared.Plan.{Plan}
+use Rattle.record.specs.declared.FullOf.{FullOf}
+use Rattle.record.specs.declared.PackedOf.{PackedOf}
+
+-- the scope of a number
+abbrev pub scopeIn : Scopes → (xdata : List ℕ) → ℕ → Scope
+scopeIn (Ending i) s k = lastScope i
+scopeIn (Listed at) s k = scopeOf (word32 s (at + 4 * k))
+
+-- n scopes, the first of which has this number
+unfoldable pub scopesFrom : Scopes → (xdata : List ℕ) → (number n : ℕ) → List Scope
+scopesFrom c s k zero = []
+scopesFrom c s k (suc n) = scopeIn c s k ∷ scopesFrom c s (k + 1) n
+
+-- the shape that a plan stands for
+abbrev pub shapeBy : Plan → (codes xdata : List ℕ) → Shape
+shapeBy p codes s =
+    record { span = p .span; codes = codes; fragment = p .fragment; scopes = scopesFrom (p .scopes) s 0 (p .count); handler = p .handler }
+
+-- a full record at an RVA whose head was read
+abbrev pub scopesOf : (offset : ℕ) → Head → Scopes
+scopesOf o h = if E h then Ending (codeBytes (h .count)) else Listed (o + h .bytes)
+
+abbrev pub planOf : Lent → ℕ → Head → Plan
+planOf x a h =
+    record { span = spanOf (h .word); fragment = F h; count = if E h then 1 else h .count; scopes = scopesOf (a - x .base) h; handler = handlerAt x a h }
+
+abbrev pub fullBy : Lent → ℕ → Head → FullOf
+fullBy x a h =
+    record { verdict = Given; plan = planOf x a h; codes = record { start = a - x .base + codesOffset h; len = codeWordBytes (h .codewords) .0 } }
+
+-- "scope Res 4" of a head, and then its record
+abbrev pub afterHead : Lent → ℕ → Head → Res FullOf
+afterHead x a h = do
+  listed ← scopesAt x (a + h .bytes) (scopeCount h)
+  ok (fullBy x a h)
+
+unfoldable pub fullPlan : Lent → ℕ → Res FullOf
+fullPlan x a = do
+  h ← headAt x a
+  afterHead x a h
+
+-- nothing where a record is refused
+abbrev pub noPlan : Plan
+noPlan = record { span = 0; fragment = false; count = 0; scopes = Listed 0; handler = 0 }
+
+abbrev pub fullAnswer : Res FullOf → FullOf
+fullAnswer (ok f) = f
+fullAnswer (refuse r) = record { verdict = Refused r; plan = noPlan; codes = record { start = 0; len = 0 } }
+
+-- a packed record: one epilogue at the function's end unless Ret=3
+abbrev pub packedPlanBy : Packed → (first : CodeBytes) → Plan
+packedPlanBy p i =
+    record { span = halfwordBytes (p .length); fragment = eqb (p .flag) 2; count = if eqb (p .ret) 3 then 0 else 1; scopes = Ending i; handler = 0 }
+
+abbrev pub packedBy : ℕ → CodesOf → PackedOf
+packedBy w c = record { verdict = Given; plan = packedPlanBy (fields w) (c .first); bytes = c .bytes }
+
+unfoldable pub packedPlan : ℕ → Res PackedOf
+packedPlan w = do
+  c ← writeCodes w
+  ok (packedBy w c)
+
+abbrev pub packedAnswer : Res PackedOf → PackedOf
+packedAnswer (ok f) = f
+packedAnswer (refuse r) = record { verdict = Refused r; plan = noPlan; bytes = replicate 16 0 }
+
+-- what an answer stands for: its refusal, or what it gives
+abbrev pub byVerdict : {A : Type 0} → Verdict → A → Res A
+byVerdict Given a = ok a
+byVerdict (Refused r) a = refuse r
+
+abbrev pub fullShapeBy : FullOf → (xdata : List ℕ) → Res Shape
+fullShapeBy f s = byVerdict (f .verdict) (shapeBy (f .plan) (take (f .codes .len) (drop (f .codes .start) s)) s)
+
+abbrev pub packedShapeBy : PackedOf → (xdata : List ℕ) → Res Shape
+packedShapeBy f s = byVerdict (f .verdict) (shapeBy (f .plan) (f .bytes) s)

@@ -1,9 +1,0 @@
-pub mod Opened
-pub mod At
-pub mod Page
-pub mod Order
-pub mod Tests
-pub mod Past
-pub mod Finding
-pub mod Heads
-pub mod Shapes
