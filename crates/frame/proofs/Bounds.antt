@@ -35,9 +35,8 @@ use Rattle.record.specs.Record.{lastScope, fullOf, fullShape, packedShape, shap
 use Rattle.xdata.specs.Scopes.{scopesAt}
 use Rattle.xdata.proofs.Heads.{head-small}
 use Rattle.frame.specs.Frame.{Inputs, Caller, fitStack, returned, leafOf, uncovered, within, byRecord, afterFind, frameOf}
-use Rattle.frame.specs.Look.{spotOf}
-use Rattle.frame.specs.FromSpot.{finish, fromBy}
-use Rattle.frame.proofs.Within.{within-spot}
+use Rattle.frame.specs.as_coded.FromPlace.{finish, placedFrom}
+use Rattle.frame.proofs.Within.{spotIn, within-placed}
 
 same : {A : Type 0} (a b : A) → ok a ≡ ok b → a ≡ b
 same a b h = cc
@@ -89,7 +88,7 @@ kept-uncovered true g c q =
 kept-uncovered false g c q = absurd (let z : _≡_ {A = ℕ} 0 1 = cc in omega arith)
 
 kept-from :
-    (k : Lent) (s : List ℕ) (hd : ℕ) (g : Regs) (p : Place) (i : CodeBytes) (v : Verdict) (c : Caller) → length s ≤ 1020 → fromBy k s hd g p i v ≡ ok c → Kept g c
+    (k : Lent) (s : List ℕ) (hd : ℕ) (g : Regs) (p : Place) (i : CodeBytes) (v : Verdict) (c : Caller) → length s ≤ 1020 → placedFrom true k s hd g p i true v ≡ ok c → Kept g c
 kept-from k s hd g p i (Refused r) c n q = absurd (let z : _≡_ {A = ℕ} 0 1 = cc in omega arith)
 kept-from k s hd g p i Given c n q =
     let u = bind-ok (runAt k s i g) (finish hd g p (length (scan s i .list))) c q in
@@ -100,8 +99,8 @@ kept-from k s hd g p i Given c n q =
 
 kept-within : (k : Lent) (s : Shape) (o : ℕ) (g : Regs) (c : Caller) → length (s .codes) ≤ 1020 → within k s o g ≡ ok c → Kept g c
 kept-within k s o g c n q =
-    let p = spotOf (s .codes) (s .span) (s .fragment) (s .scopes) o in
-    kept-from k (s .codes) (s .handler) g (p .place) (p .index) (p .verdict) c n (sym (within-spot k s o g) ∙ q)
+    let p = spotIn s o in
+    kept-from k (s .codes) (s .handler) g (p .place) (p .index) (p .verdict) c n (sym (within-placed true k s o g) ∙ q)
 
 kept-record : (first : Bool) (t : Inputs) (e : Entry) (g : Regs) (c : Caller) → byRecord first t e g ≡ ok c → Kept g c
 unfolding byRecord

@@ -1,8 +1,5 @@
 pub mod Opened
-pub mod Cases
 pub mod Order
-pub mod Placing
-pub mod Looking
 pub mod Within
 pub mod Records
 pub mod Finding

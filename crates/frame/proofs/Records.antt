@@ -1,48 +1,48 @@
 -- The caller by a record, full or packed, from what its plan's reader answers.
 -- Assumes nothing.
 use Prim.Native.Nat.{ℕ, _-_, _≤_}
-use mathlib.Core.Path.{_≡_, refl, sym, ap, _∙_}
+use mathlib.Core.Path.{_≡_, refl, ap, _∙_}
 use mathlib.Core.List.{List, _++_}
 use mathlib.Core.Bool.{Bool, true, false}
-use native.Mathlib.Omega.{arith}
-use lib.ListN.{length, take, drop, replicate, length-take}
+use lib.Dec.{ltb}
 use Rattle.words.specs.Lent.{Lent, lent}
 use Rattle.words.specs.Bits.{bits, even}
-use Rattle.words.specs.declared.Refusal.{Refusal}
 use Rattle.words.specs.declared.Verdict.the-variants.{Given, Refused}
-use Rattle.words.specs.declared.Refusal.the-variants.{Reserved}
-use Rattle.words.specs.Answer.{Res, ok, refuse, _>>=_, _>>_, need}
+use Rattle.words.specs.Answer.{if_then_else_, _>>=_, _>>_}
 use Rattle.machine.specs.declared.Regs.{Regs}
 use Rattle.pdata.specs.declared.Entry.{Entry}
 use Rattle.record.specs.declared.FullOf.{FullOf}
 use Rattle.record.specs.declared.PackedOf.{PackedOf}
-use Rattle.packed.specs.Packed.{fields, allowed}
-use Rattle.packed_codes.specs.PackedCodes.{firstList, secondList, written, writeCodes}
-use Rattle.record.specs.as_coded.Plan.{fullPlan, fullAnswer, shapeBy, packedBy, packedPlan, packedAnswer}
-use Rattle.record.specs.Record.{fullShape, packedShape, shapeOf}
+use Rattle.record.specs.as_coded.Plan.{byVerdict, fullPlan, fullAnswer, shapeBy, packedPlan, packedAnswer}
 use Rattle.record.proofs.Shapes.{full-shape, packed-shape, shape-full, shape-packed}
-use Rattle.frame.specs.Frame.{Inputs, inputs, Caller, byRecord}
-use Rattle.frame.specs.FromSpot.{inShape, byFull, byPacked}
+use Rattle.frame.specs.Frame.{inputs, uncovered, within, byRecord}
+use Rattle.frame.specs.as_coded.FromPlace.{fromPlaced, inShape, byFull, byPacked}
+use Rattle.frame.proofs.Within.{spotIn, within-placed}
+use Rattle.place.specs.as_coded.Placed.{outside, covered, placedBy, codesOf, fullPlaced, packedPlaced}
+use Rattle.record.specs.declared.Plan.{Plan}
+use Rattle.unwinding.specs.Shape.{Shape}
+use Rattle.words.specs.declared.Verdict.{Verdict}
 
 module _ (first : Bool) (k : Lent) (o : ℕ) (g : Regs) where
-  -- a full record
-  module _ (b : ℕ) (s : List ℕ) (a : ℕ) (f : FullOf) (is : f ≡ fullAnswer (fullPlan (lent b s) a)) where
-    abbrev part : List ℕ
-    part = take (f .codes .len) (drop (f .codes .start) s)
+  by-cover :
+      (sh : Shape) (t : Bool)
+      → (if t then within k sh o g else uncovered first g) ≡ fromPlaced first k (sh .codes) g (if t then covered (sh .handler) (spotIn sh o) else outside)
+  by-cover sh true = within-placed first k sh o g
+  by-cover sh false = refl
 
-    pub full-refused : (r : Refusal) → f .verdict ≡ Refused r → byFull first (lent b s) a k o g ≡ refuse r
-    full-refused r e = rw (full-shape b s a f is, e) refl
+  by-verdict : (v : Verdict) (p : Plan) (s x : List ℕ) → (byVerdict v (shapeBy p s x) >>= inShape first k o g) ≡ fromPlaced first k s g (placedBy v p s x o)
+  by-verdict Given p s x = by-cover (shapeBy p s x) (ltb o (p .span))
+  by-verdict (Refused r) p s x = refl
 
-    pub full-given : f .verdict ≡ Given → byFull first (lent b s) a k o g ≡ inShape first k o g (shapeBy (f .plan) part s)
-    full-given e = rw (full-shape b s a f is, e) refl
+  pub by-full :
+      (b : ℕ) (s : List ℕ) (a : ℕ) (f : FullOf) → f ≡ fullAnswer (fullPlan (lent b s) a)
+      → byFull first (lent b s) a k o g ≡ fromPlaced first k (codesOf s f) g (fullPlaced s f o .at)
+  by-full b s a f is = ap (λ x. x >>= inShape first k o g) (full-shape b s a f is) ∙ by-verdict (f .verdict) (f .plan) (codesOf s f) s
 
-  -- a packed word, beside any .xdata
-  module _ (w : ℕ) (s : List ℕ) (f : PackedOf) (is : f ≡ packedAnswer (packedPlan w)) where
-    pub packed-refused : (r : Refusal) → f .verdict ≡ Refused r → byPacked first w k o g ≡ refuse r
-    packed-refused r e = rw (packed-shape w s f is, e) refl
-
-    pub packed-given : f .verdict ≡ Given → byPacked first w k o g ≡ inShape first k o g (shapeBy (f .plan) (f .bytes) s)
-    packed-given e = rw (packed-shape w s f is, e) refl
+  pub by-packed :
+      (w : ℕ) (f : PackedOf) → f ≡ packedAnswer (packedPlan w)
+      → byPacked first w k o g ≡ fromPlaced first k (f .bytes) g (packedPlaced f o .at)
+  by-packed w f is = ap (λ x. x >>= inShape first k o g) (packed-shape w (f .bytes) f is) ∙ by-verdict (f .verdict) (f .plan) (f .bytes) (f .bytes)
 
 -- by the record found
 pub record-full :
@@ -56,12 +56,3 @@ pub record-packed :
     → o ≡ even (g .pc) - image - e .start → byPacked first (e .word) (lent kb ks) o g ≡ byRecord first (inputs image p b x kb ks) e g
 unfolding byRecord
 record-packed first image p b x kb ks e g o h q = rw (shape-packed (lent b x) e h, q) refl
-
--- a packed record has few code bytes
-pub packed-few : (w : ℕ) (f : PackedOf) → f ≡ packedAnswer (packedPlan w) → length (f .bytes) ≤ 1020
-unfolding packedPlan writeCodes
-packed-few w f is = go (allowed (fields w)) is
-  where
-    go : (b : Bool) → f ≡ packedAnswer ((need b Reserved >> ok (written (fields w))) >>= λ c. ok (packedBy w c)) → length (f .bytes) ≤ 1020
-    go true q = rw q (omega (arith, length-take 16 (firstList (fields w) ++ secondList (fields w) ++ replicate 16 0)))
-    go false q = rw q (omega arith)

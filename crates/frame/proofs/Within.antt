@@ -3,9 +3,8 @@
 use Prim.Native.Nat.{ℕ, _≤_, _<_}
 use mathlib.Core.Path.{_≡_, refl, sym, ap, _∙_}
 use mathlib.Core.List.{List}
-use mathlib.Core.Bool.{Bool}
+use mathlib.Core.Bool.{Bool, true}
 use lib.ListN.{length}
-use lib.Dec.{leb}
 use borrow.Author.Tests.{le-leb, lt-leb}
 use Rattle.words.specs.Lent.{Lent}
 use Rattle.words.specs.declared.Place.{Place}
@@ -14,10 +13,10 @@ use Rattle.words.specs.declared.Refusal.{Refusal}
 use Rattle.words.specs.declared.Refusal.the-variants.{SpFell}
 use Rattle.words.specs.declared.Verdict.{Verdict}
 use Rattle.words.specs.declared.Verdict.the-variants.{Given, Refused}
-use Rattle.words.specs.Answer.{Res, ok, refuse, _>>=_, _>>_, need}
+use Rattle.words.specs.Answer.{Res, ok, refuse, _>>=_, _>>_}
 use Rattle.unwinding.specs.CodeList.{run}
 use Rattle.unwinding.specs.Shape.{Shape}
-use Rattle.unwinding.specs.View.{View, view}
+use Rattle.unwinding.specs.View.{view}
 use Rattle.unwinding.specs.Todo.{Todo, todo}
 use Rattle.words.proofs.Answers.{bind-assoc}
 use Rattle.codes.specs.declared.Code.{Code}
@@ -26,20 +25,21 @@ use Rattle.machine.specs.declared.Regs.{Regs}
 use Rattle.machine.specs.Step.{step}
 use Rattle.machine.specs.Run.{runAt}
 use Rattle.frame.specs.Frame.{Caller, returned, within}
-use Rattle.frame.specs.Look.{spotOf}
-use Rattle.frame.specs.FromSpot.{finish, ranFrom, fromBy, fromSpot}
-use Rattle.frame.specs.declared.Spot.{Spot}
-use Rattle.frame.proofs.Placing.{todoBy, spot-todo, EndedBy, spot-ends}
+use Rattle.place.specs.as_coded.Look.{spotOf}
+use Rattle.frame.specs.as_coded.FromPlace.{finish, ranFrom, placedFrom, fromPlaced}
+use Rattle.place.specs.as_coded.Placed.{covered}
+use Rattle.place.specs.declared.Spot.{Spot}
+use Rattle.place.proofs.Placing.{todoBy, spot-todo, EndedBy, spot-ends}
 
 abbrev undone : (stack : Lent) → (handler : ℕ) → Regs → Todo Code → Res Caller
 undone k handler g t = run (step k) (t .codes) g >>= finish handler g (t .place) (length (t .codes))
 
 todo-ran :
-    (k : Lent) (s : List ℕ) (handler : ℕ) (g : Regs) (p : Place) (i : CodeBytes) (v : Verdict) → EndedBy s i v
-    → (todoBy s p i v >>= undone k handler g) ≡ fromBy k s handler g p i v
+    (first : Bool) (k : Lent) (s : List ℕ) (handler : ℕ) (g : Regs) (p : Place) (i : CodeBytes) (v : Verdict) → EndedBy s i v
+    → (todoBy s p i v >>= undone k handler g) ≡ placedFrom first k s handler g p i true v
 unfolding runAt
-todo-ran k s handler g p i (Refused r) e = refl
-todo-ran k s handler g p i Given e = rw (e .1) (go (run (step k) (scan s i .list) g))
+todo-ran first k s handler g p i (Refused r) e = refl
+todo-ran first k s handler g p i Given e = rw (e .1) (go (run (step k) (scan s i .list) g))
   where
     go :
         (x : Res Regs)
@@ -48,15 +48,18 @@ todo-ran k s handler g p i Given e = rw (e .1) (go (run (step k) (scan s i .list
     go (ok h) = refl
     go (refuse r) = refl
 
-pub within-spot :
-    (k : Lent) (sh : Shape) (o : ℕ) (g : Regs)
-    → within k sh o g ≡ fromSpot k (sh .codes) (sh .handler) g (spotOf (sh .codes) (sh .span) (sh .fragment) (sh .scopes) o)
+abbrev pub spotIn : Shape → (offset : ℕ) → Spot
+spotIn sh o = spotOf (sh .codes) (sh .span) (sh .fragment) (sh .scopes) o
+
+pub within-placed :
+    (first : Bool) (k : Lent) (sh : Shape) (o : ℕ) (g : Regs)
+    → within k sh o g ≡ fromPlaced first k (sh .codes) g (covered (sh .handler) (spotIn sh o))
 unfolding within
-within-spot k sh o g =
+within-placed first k sh o g =
     sym (bind-assoc (view size codesAt sh) (λ v. todo size v o) (undone k (sh .handler) g))
     ∙ ap (λ x. x >>= undone k (sh .handler) g) (spot-todo sh o)
-    ∙ (let p = spotOf (sh .codes) (sh .span) (sh .fragment) (sh .scopes) o in
-    todo-ran k (sh .codes) (sh .handler) g (p .place) (p .index) (p .verdict) (spot-ends (sh .codes) (sh .span) (sh .fragment) (sh .scopes) o))
+    ∙ (let p = spotIn sh o in
+    todo-ran first k (sh .codes) (sh .handler) g (p .place) (p .index) (p .verdict) (spot-ends (sh .codes) (sh .span) (sh .fragment) (sh .scopes) o))
 
 -- by what running came to
 module _ (k : Lent) (s : List ℕ) (handler : ℕ) (g : Regs) (p : Place) (i : CodeBytes) where
@@ -70,14 +73,3 @@ module _ (k : Lent) (s : List ℕ) (handler : ℕ) (g : Regs) (p : Place) (i : C
       (h : Regs) (n : ℕ) → runAt k s i g ≡ ok h → n ≡ length (scan s i .list) → g .sp ≤ h .sp
       → ok (record { regs = returned h; place = p; handler = handler; codes = n }) ≡ ranFrom k s handler g p i
   ran-rose h n e q l = rw (e, le-leb (g .sp) (h .sp) l, q) refl
-
--- by the spot found
-module _ (k : Lent) (sh : Shape) (o : ℕ) (g : Regs) (p : Spot) (is : p ≡ spotOf (sh .codes) (sh .span) (sh .fragment) (sh .scopes) o) where
-  from : within k sh o g ≡ fromSpot k (sh .codes) (sh .handler) g p
-  from = within-spot k sh o g ∙ ap (fromSpot k (sh .codes) (sh .handler) g) (sym is)
-
-  pub within-refused : (r : Refusal) → p .verdict ≡ Refused r → within k sh o g ≡ refuse r
-  within-refused r e = from ∙ ap (fromBy k (sh .codes) (sh .handler) g (p .place) (p .index)) e
-
-  pub within-given : p .verdict ≡ Given → within k sh o g ≡ ranFrom k (sh .codes) (sh .handler) g (p .place) (p .index)
-  within-given e = from ∙ ap (fromBy k (sh .codes) (sh .handler) g (p .place) (p .index)) e

@@ -4,8 +4,7 @@ use machine::Regs;
 use pdata::Found;
 use pdata::Sound;
 
-mod caller; // the caller by the record found
-mod place; // where an offset stands in a record
+mod answer; // the caller by the record found
 
 use words::CodeBytes;
 use words::Place;
@@ -35,48 +34,6 @@ pub struct Unwound {
 pub struct Checked {
     pub fit: bool,
     pub sorted: bool,
-}
-
-// An epilogue as its codes make it: it takes the bytes from start up to start + size.
-pub struct Way {
-    pub start: u64,
-    pub size: u64,
-    pub condition: u32,
-    pub index: CodeBytes,
-}
-
-// The epilogue of a scope, or 6.
-pub enum WayOf {
-    Made(Way),
-    NoWay(Refusal),
-}
-
-// The epilogue that an offset falls into, if any.
-pub enum Hit {
-    Miss,
-    In(Way),
-}
-
-// Of the epilogues seen so far: below which offset no later one may start, where the last that is not empty ends, whether 7 is not given,
-// and the one that the offset falls into.
-pub struct Seen {
-    pub floor: u64,
-    pub reach: u64,
-    pub fits: bool,
-    pub hit: Hit,
-}
-
-// What a pass over the epilogues came to.
-pub enum Looked {
-    All(Seen),
-    Bad(Refusal),
-}
-
-// A place, and the index of the first code that runs there.
-pub struct Spot {
-    pub verdict: Verdict,
-    pub place: Place,
-    pub index: CodeBytes,
 }
 
 // 1 for the stack.
@@ -133,18 +90,18 @@ fn after_find(
     ensures { λ r. ⌜ ((p : List ℕ) (x : Res (Option Entry)) → found ≡ foundOf x → r ≡ unwound g (afterFind first (inputs image p rva (now (xdata .entry)) base (now (stack .entry))) g x)) ⌝ }
 {
     match found {
-        Found::Refused(why) => caller::refused(g, why),
+        Found::Refused(why) => answer::refused(g, why),
         Found::Nothing => {
             if machine::stands(base, stack, g.sp as u64) {
-                return caller::uncovered(first, g);
+                return answer::uncovered(first, g);
             }
-            caller::refused(g, Refusal::BadStack)
+            answer::refused(g, Refusal::BadStack)
         }
         Found::Record(e) => {
             if machine::stands(base, stack, g.sp as u64) {
-                return caller::by_record(first, image, rva, xdata, base, stack, e, g);
+                return answer::by_record(first, image, rva, xdata, base, stack, e, g);
             }
-            caller::refused(g, Refusal::BadStack)
+            answer::refused(g, Refusal::BadStack)
         }
     }
 }
@@ -171,7 +128,7 @@ pub fn frame_of(
         let found = pdata::find_in(sound, image, pdata, g.pc);
         return after_find(first, found, image, rva, xdata, base, stack, g);
     }
-    caller::refused(g, Refusal::UnfitInput)
+    answer::refused(g, Refusal::UnfitInput)
 }
 
 // One frame.

@@ -4,8 +4,8 @@
 use Prim.Native.Nat.{ℕ, zero, suc, _+_, _-_, _*_, _≤_, _<_}
 use mathlib.Core.Path.{_≡_, refl, sym, ap, ap₂, _∙_}
 use mathlib.Core.Bool.{Bool, true, false, _&&_}
-use mathlib.Core.List.{List, _∷_, []}
-use lib.ListN.{length, take, drop}
+use mathlib.Core.List.{List, _∷_, [], _++_}
+use lib.ListN.{length, take, drop, replicate, length-take}
 use lib.Dec.{eqb, leb}
 use native.Mathlib.Omega.{arith}
 use borrow.Author.Tests.{eq-eqb, ne-eqb, leb-true}
@@ -20,8 +20,8 @@ use Rattle.words.specs.Answer.{Res, ok, refuse, need, _>>_, _>>=_, if_then_else
 use Rattle.unwinding.specs.Shape.{Shape}
 use Rattle.unwinding.specs.declared.Scope.{Scope}
 use Rattle.xdata.specs.Xdata.{E, F, scopeCount, codesOffset, recordBytes, headAt}
-use Rattle.packed.specs.Packed.{fields}
-use Rattle.packed_codes.specs.PackedCodes.{writeCodes}
+use Rattle.packed.specs.Packed.{fields, allowed}
+use Rattle.packed_codes.specs.PackedCodes.{firstList, secondList, written, writeCodes}
 use Rattle.record.specs.Record.{lastScope, fullShape, packedShape, shapeOf}
 use Rattle.xdata.specs.Scopes.{scopeOf, scopesAt}
 use Rattle.record.specs.as_coded.Plan.{scopeIn, scopesFrom, scopesOf, planOf, fullBy, afterHead, fullPlan, fullAnswer, shapeBy, fullShapeBy, packedPlanBy, packedBy, packedPlan, packedAnswer, packedShapeBy}
@@ -263,3 +263,12 @@ shape-full x e h = rw (eq-eqb (bits 0 2 (e .word)) 0 h) refl
 
 pub shape-packed : (x : Lent) (e : Entry) → (bits 0 2 (e .word) ≡ 0 → ⊥) → shapeOf x e ≡ packedShape (e .word)
 shape-packed x e h = rw (ne-eqb (bits 0 2 (e .word)) 0 h) refl
+
+-- a packed record has few code bytes
+pub packed-few : (w : ℕ) (f : PackedOf) → f ≡ packedAnswer (packedPlan w) → length (f .bytes) ≤ 1020
+unfolding packedPlan writeCodes
+packed-few w f is = go (allowed (fields w)) is
+  where
+    go : (b : Bool) → f ≡ packedAnswer ((need b Reserved >> ok (written (fields w))) >>= λ c. ok (packedBy w c)) → length (f .bytes) ≤ 1020
+    go true q = rw q (omega (arith, length-take 16 (firstList (fields w) ++ secondList (fields w) ++ replicate 16 0)))
+    go false q = rw q (omega arith)

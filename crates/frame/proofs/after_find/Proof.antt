@@ -7,9 +7,9 @@ use Rattle.frame.proofs.Finding.{found-refused, found-nothing, found-re
 use borrow.Author.Needs.{needs}
 use Rattle.frame.proofs.after_find.Statement.{statement}
 use Rattle.frame.proofs.after_find.Tie as tie
-use Rattle.frame.proofs.caller.by_record.Reads as by-record-reads
-use Rattle.frame.proofs.caller.refused.Reads as refused-reads
-use Rattle.frame.proofs.caller.uncovered.Reads as uncovered-reads
+use Rattle.frame.proofs.answer.by_record.Reads as by-record-reads
+use Rattle.frame.proofs.answer.refused.Reads as refused-reads
+use Rattle.frame.proofs.answer.uncovered.Reads as uncovered-reads
 use Rattle.machine.proofs.stands.Reads as stands-reads
 
 enum-known-found : tie.Need-enum-known-found

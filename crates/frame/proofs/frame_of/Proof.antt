@@ -10,7 +10,7 @@ use borrow.Author.Needs.{needs}
 use Rattle.frame.proofs.frame_of.Statement.{statement}
 use Rattle.frame.proofs.frame_of.Tie as tie
 use Rattle.frame.proofs.after_find.Reads as after-find-reads
-use Rattle.frame.proofs.caller.refused.Reads as refused-reads
+use Rattle.frame.proofs.answer.refused.Reads as refused-reads
 use Rattle.pdata.proofs.find_in.Reads as find-in-reads
 
 find-in-requires : tie.Need-find-in-requires

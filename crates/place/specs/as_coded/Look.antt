@@ -1,0 +1,113 @@
+-- Where an offset stands in a record, as one pass over the record finds it: the epilogues in turn, with what refusal 7 asks of them and
+-- the one that the offset falls into; then the place and the index at which the codes that run there begin. That this is what `view` and
+-- `todo` say is a law (proofs/Placing.antt).
+use Prim.Native.Nat.{ℕ, _+_, _-_}
+use mathlib.Core.List.{List, [], _∷_}
+use mathlib.Core.Bool.{Bool, true, false, _&&_, _||_, not}
+use lib.Dec.{leb, ltb, eqb}
+use Rattle.words.specs.declared.CodeBytes.{CodeBytes}
+use Rattle.words.specs.declared.Place.{Place}
+use Rattle.words.specs.declared.Place.the-variants.{Leaf, Prologue, Body, Epilogue}
+use Rattle.words.specs.declared.Refusal.{Refusal}
+use Rattle.words.specs.declared.Refusal.the-variants.{BadLayout, InsideInstruction, Conditional}
+use Rattle.words.specs.declared.Verdict.the-variants.{Given, Refused}
+use Rattle.words.specs.Units.{codeBytes}
+use Rattle.words.specs.Answer.{Res, either, if_then_else_}
+use Rattle.unwinding.specs.CodeList.{Codes, total}
+use Rattle.unwinding.specs.Shape.{startOf}
+use Rattle.unwinding.specs.Todo.{always}
+use Rattle.unwinding.specs.declared.Scope.{Scope}
+use Rattle.codes.specs.declared.Code.{Code}
+use Rattle.codes.specs.declared.Skipped.{Skipped}
+use Rattle.codes.specs.declared.Skipped.the-variants.{At, Nowhere}
+use Rattle.codes.specs.Code.{size, codesAt}
+use Rattle.codes.specs.Skip.{skipAt}
+use Rattle.place.specs.declared.Way.{Way}
+use Rattle.place.specs.declared.WayOf.{WayOf}
+use Rattle.place.specs.declared.WayOf.the-variants.{Made, NoWay}
+use Rattle.place.specs.declared.Hit.{Hit}
+use Rattle.place.specs.declared.Hit.the-variants.{Miss, In}
+use Rattle.place.specs.declared.Seen.{Seen}
+use Rattle.place.specs.declared.Looked.{Looked}
+use Rattle.place.specs.declared.Looked.the-variants.{All, Bad}
+use Rattle.place.specs.declared.Spot.{Spot}
+
+-- an epilogue as its codes make it
+abbrev pub wayOf : (span : ℕ) → Scope → Codes Code → Way
+wayOf span e c =
+    let n : ℕ = total size (c .list) + c .endSize in
+    record { start = startOf (e .start) span n; size = n; condition = e .condition; index = e .index }
+
+abbrev pub wayRead : (span : ℕ) → Scope → Res (Codes Code) → WayOf
+wayRead span e r = either r NoWay (λ c. Made (wayOf span e c))
+
+-- where it ends
+abbrev pub wayEnd : WayOf → ℕ
+wayEnd (Made w) = w .start + w .size
+wayEnd (NoWay r) = 0
+
+-- it stands in line: not before `floor`, inside the function, and, unless it is empty, not before `reach`
+abbrev pub inLine : (span floor reach : ℕ) → Way → Bool
+inLine span f r w = leb f (w .start) && leb (w .start + w .size) span && (leb (w .start + w .size) (w .start) || leb r (w .start))
+
+-- the first epilogue that the offset falls into
+abbrev pub hitOf : (offset : ℕ) → Hit → Way → Hit
+hitOf o (In v) w = In v
+hitOf o Miss w = if leb (w .start) o && ltb o (w .start + w .size) then In w else Miss
+
+-- what has been seen with one epilogue more
+abbrev pub see : (span offset : ℕ) → Seen → Way → Seen
+see span o s w =
+    record { floor = w .start + 1; reach = if leb (w .start + w .size) (w .start) then s .reach else w .start + w .size; fits = s .fits && inLine span (s .floor) (s .reach) w; hit = hitOf o (s .hit) w }
+
+-- before any epilogue: the prologue is what must not be shared
+abbrev pub unseen : (span prologue : ℕ) → Seen
+unseen span p = record { floor = 0; reach = p; fits = leb p span; hit = Miss }
+
+-- the epilogues in turn, over these code bytes; 6 stops
+unfoldable pub lookFrom : (codes : List ℕ) → (span offset : ℕ) → Seen → List Scope → Looked
+lookFrom s span o seen [] = All seen
+lookFrom s span o seen (e ∷ es) =
+    either (codesAt s (e .index)) Bad (λ c. lookFrom s span o (see span o seen (wayOf span e c)) es)
+
+-- a place, the index of the first code that runs there; a refusal has place leaf and index 0
+abbrev pub spot : Place → CodeBytes → Spot
+spot p i = record { verdict = Given; place = p; index = i }
+
+abbrev pub noSpot : Refusal → Spot
+noSpot r = record { verdict = Refused r; place = Leaf; index = codeBytes 0 }
+
+abbrev pub bySkip : Place → Skipped → Spot
+bySkip p (At i) = spot p i
+bySkip p Nowhere = noSpot InsideInstruction
+
+-- the codes from an index whose instructions take k bytes are skipped
+abbrev pub skipped : (codes : List ℕ) → Place → CodeBytes → (k : ℕ) → Spot
+skipped s p i k = bySkip p (skipAt s i k)
+
+-- in an epilogue: 9 before 10
+abbrev pub ifAlways : (unconditional : Bool) → Skipped → Spot
+ifAlways true (At i) = spot Epilogue i
+ifAlways false (At i) = noSpot Conditional
+ifAlways b Nowhere = noSpot InsideInstruction
+
+abbrev pub inHit : (codes : List ℕ) → (offset : ℕ) → Hit → Spot
+inHit s o Miss = spot Body (codeBytes 0)
+inHit s o (In w) = ifAlways (eqb (w .condition) always) (skipAt s (w .index) (o - w .start))
+
+-- 7, and then the place
+abbrev pub inSeen : (codes : List ℕ) → (prologue offset : ℕ) → Looked → Spot
+inSeen s p o (Bad r) = noSpot r
+inSeen s p o (All seen) =
+    if seen .fits
+    then (if ltb o p then skipped s Prologue (codeBytes 0) (p - o) else inHit s o (seen .hit))
+    else noSpot BadLayout
+
+-- the prologue's size
+abbrev pub prologueOf : (fragment : Bool) → Codes Code → ℕ
+prologueOf f c = if f then 0 else total size (c .list)
+
+unfoldable pub spotOf : (codes : List ℕ) → (span : ℕ) → (fragment : Bool) → List Scope → (offset : ℕ) → Spot
+spotOf s span f scopes o =
+    either (codesAt s (codeBytes 0)) noSpot
+    (λ c. inSeen s (prologueOf f c) o (lookFrom s span o (unseen span (prologueOf f c)) scopes))

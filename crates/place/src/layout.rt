@@ -1,0 +1,211 @@
+// The epilogues of a record in one pass: what refusals 6 and 7 ask of them, and the one that an offset falls into.
+use super::Hit;
+use super::Looked;
+use super::Seen;
+use super::Way;
+use super::WayOf;
+use codes::Scanned;
+use record::Plan;
+use unwinding::Scope;
+use unwinding::Start;
+use words::CodeBytes;
+use words::Halfwords;
+use words::Refusal;
+ghost use mathlib.Core.Path.{_≡_};
+ghost use mathlib.Core.Bool.{_&&_, _||_};
+ghost use Prim.Native.Nat.{ℕ, _+_, _-_, _^_, _≤_, _<_};
+ghost use mathlib.Core.List.{List};
+ghost use lib.ListN.{length};
+ghost use lib.Dec.{leb, ltb};
+ghost use Rattle.words.specs.Units.{codeBytes, halfwords, halfwordBytes};
+ghost use Rattle.words.specs.Answer.{if_then_else_};
+ghost use Rattle.unwinding.specs.Shape.{startOf};
+ghost use Rattle.codes.specs.Code.{codesAt, scan as scanOf};
+ghost use Rattle.codes.specs.Reading.{scanned};
+ghost use Rattle.record.specs.as_coded.Plan.{scopesFrom};
+ghost use Rattle.place.specs.as_coded.Look.{wayRead, wayEnd, hitOf, see as seeOf, lookFrom, unseen as unseenOf};
+
+// Where an epilogue of this size starts in a function of this length.
+fn start_of(start: Start, span: u64, size: u64) -> u64
+    requires { ⌜ span < 2 ^ 32 ⌝ }
+    ensures { λ r. ⌜ (r ≡ startOf start span size) × (r < 2 ^ 32) ⌝ }
+{
+    match start {
+        Start::From(at) => at as u64,
+        Start::Ending => { if size <= span { span - size } else { 0 } }
+    }
+}
+
+// What a pass from an index finds. The last pass says it where that was from the same index, as epilogues often share their codes.
+fn rescan(codes: &[u8], index: CodeBytes, at: CodeBytes, last: Scanned) -> Scanned
+    requires { ⌜ last ≡ scanned (scanOf (now codes) at) ⌝ }
+    ensures { λ r. ⌜ r ≡ scanned (scanOf (now (codes .entry)) index) ⌝ }
+{
+    if index.0 == at.0 {
+        return last;
+    }
+    codes::scan(codes, index)
+}
+
+// The bytes of so many halfwords of instructions, as a pass counts them.
+fn bytes_of(count: u64) -> u64
+    requires { ⌜ count < 4096 ⌝ }
+    ensures { λ r. ⌜ r ≡ halfwordBytes (halfwords count) ⌝ }
+{
+    words::halfword_bytes(Halfwords(count as u32))
+}
+
+// The epilogue of a scope, by the pass over its codes.
+fn way_of(e: Scope, found: Scanned, span: u64) -> WayOf
+    requires { ⌜ ((s : List ℕ) × (length s ≤ 1020) × (found ≡ scanned (scanOf s (e .index)))) × (span < 2 ^ 32) ⌝ }
+    ensures { λ r. ⌜ ((s : List ℕ) → found ≡ scanned (scanOf s (e .index)) → r ≡ wayRead span e (codesAt s (e .index))) × (wayEnd r < 2 ^ 33) ⌝ }
+{
+    let index = e.index;
+    let start = e.start;
+    match found {
+        Scanned::Ends(list, end) => {
+            let size = bytes_of(list + end);
+            WayOf::Made(Way {
+                start: start_of(start, span, size),
+                size: size,
+                condition: e.condition,
+                index: index,
+            })
+        }
+        Scanned::Refused(r) => WayOf::NoWay(r),
+    }
+}
+
+// Whether an epilogue from start up to end stands in line: not before floor, inside the function, and, unless it is empty, not before
+// reach.
+fn in_line(span: u64, floor: u64, reach: u64, start: u64, end: u64) -> bool
+    ensures { λ r. ⌜ r ≡ (leb floor start && leb end span && (leb end start || leb reach start)) ⌝ }
+{
+    if start < floor {
+        return false;
+    }
+    if span < end {
+        return false;
+    }
+    if end <= start {
+        return true;
+    }
+    reach <= start
+}
+
+fn both(a: bool, b: bool) -> bool
+    ensures { λ r. ⌜ r ≡ (a && b) ⌝ }
+{
+    if a { b } else { false }
+}
+
+// Where the last epilogue that is not empty ends.
+fn reach_of(reach: u64, start: u64, end: u64) -> u64
+    ensures { λ r. ⌜ r ≡ (if leb end start then reach else end) ⌝ }
+{
+    if end <= start { reach } else { end }
+}
+
+// Whether an offset stands from start up to end.
+fn falls(o: u64, start: u64, end: u64) -> bool
+    ensures { λ r. ⌜ r ≡ (leb start o && ltb o end) ⌝ }
+{
+    if start <= o { o < end } else { false }
+}
+
+// The first epilogue that the offset falls into.
+fn hit_of(o: u64, hit: Hit, w: Way, end: u64) -> Hit
+    requires { ⌜ end ≡ w .start + w .size ⌝ }
+    ensures { λ r. ⌜ r ≡ hitOf o hit w ⌝ }
+{
+    match hit {
+        Hit::In(_) => hit,
+        Hit::Miss => {
+            if falls(o, w.start, end) {
+                Hit::In(w)
+            } else {
+                Hit::Miss
+            }
+        }
+    }
+}
+
+// What has been seen with one epilogue more.
+fn see(span: u64, o: u64, s: Seen, w: Way) -> Seen
+    requires { ⌜ w .start + w .size < 2 ^ 33 ⌝ }
+    ensures { λ r. ⌜ r ≡ seeOf span o s w ⌝ }
+{
+    let start = w.start;
+    let end = start + w.size;
+    let hit = s.hit;
+    Seen {
+        floor: start + 1,
+        reach: reach_of(s.reach, start, end),
+        fits: both(s.fits, in_line(span, s.floor, s.reach, start, end)),
+        hit: hit_of(o, hit, w, end),
+    }
+}
+
+// A function's length, with its range.
+pub fn span_of(plan: Plan) -> u64
+    ensures { λ r. ⌜ (r ≡ plan .span) × (r < 2 ^ 32) ⌝ }
+{
+    plan.span as u64
+}
+
+// How many epilogues a record has, with its range.
+fn count_of(plan: Plan) -> usize
+    ensures { λ r. ⌜ (r ≡ plan .count) × (r < 2 ^ 64) ⌝ }
+{
+    plan.count
+}
+
+// The epilogues of a record in turn, given what the pass from index 0 found. Codes are scanned anew only where the index changes.
+pub fn look(codes: &[u8], plan: Plan, xdata: &[u8], o: u64, seen: Seen, first: Scanned) -> Looked
+    requires { ⌜ (length (now codes) ≤ 1020) × (first ≡ scanned (scanOf (now codes) (codeBytes 0))) ⌝ }
+    ensures { λ r. ⌜ r ≡ lookFrom (now (codes .entry)) (plan .span) o seen (scopesFrom (plan .scopes) (now (xdata .entry)) 0 (plan .count)) ⌝ }
+{
+    let span = span_of(plan);
+    let n = count_of(plan);
+    let mut s = seen;
+    let mut last = first;
+    let mut at = CodeBytes(0);
+    let mut k: usize = 0;
+    while k < n {
+        let e = record::scope(plan, xdata, k);
+        let index = e.index;
+        last = rescan(codes, index, at, last);
+        at = index;
+        let way = way_of(e, last, span);
+        match way {
+            WayOf::Made(w) => {
+                s = see(span, o, s, w);
+            }
+            WayOf::NoWay(r) => {
+                return Looked::Bad(r);
+            }
+        }
+        k += 1;
+    }
+    Looked::All(s)
+}
+
+// Before any epilogue: the prologue is what must not be shared.
+pub fn unseen(span: u64, p: u64) -> Seen
+    ensures { λ r. ⌜ r ≡ unseenOf span p ⌝ }
+{
+    Seen {
+        floor: 0,
+        reach: p,
+        fits: p <= span,
+        hit: Hit::Miss,
+    }
+}
+
+// The bytes of a prologue whose instructions take so many halfwords; a fragment has none.
+pub fn prologue_of(fragment: bool, list: u64) -> u64
+    requires { ⌜ list < 4096 ⌝ }
+    ensures { λ r. ⌜ r ≡ (if fragment then 0 else halfwordBytes (halfwords list)) ⌝ }
+{
+    if fragment { 0 } else { bytes_of(list) }
+}
