@@ -17,18 +17,19 @@ use Rattle.words.specs.declared.Verdict.the-variants.{Given, Refused}
 use Rattle.words.specs.Answer.{Res, ok, refuse, _>>=_, _>>_, need, if_then_else_, maybe}
 use Rattle.unwinding.specs.CodeList.{run}
 use Rattle.unwinding.specs.Shape.{Shape}
-use Rattle.unwinding.specs.View.{ascending, view}
+use Rattle.unwinding.specs.View.{view}
 use Rattle.unwinding.specs.Todo.{todo}
 use Rattle.codes.specs.Code.{size, codesAt}
 use Rattle.machine.specs.declared.Regs.{Regs}
 use Rattle.machine.specs.Registers.{setPc}
 use Rattle.machine.specs.Step.{stands, step}
 use Rattle.pdata.specs.declared.Entry.{Entry}
-use Rattle.pdata.specs.Pdata.{entries, find}
+use Rattle.pdata.specs.Pdata.{find}
+use Rattle.pdata.specs.Pdata as Pdata
 use Rattle.xdata.specs.Xdata.{fitXdata}
 use Rattle.record.specs.Record.{shapeOf}
 use Rattle.frame.specs.declared.Unwound.{Unwound}
-use Rattle.frame.specs.declared.Checked.{Checked}
+use Rattle.pdata.specs.declared.Checked.{Checked}
 
 -- what is lent beside the registers
 pub record Inputs : Type 0 where
@@ -103,4 +104,5 @@ unwound g (refuse r) = record { verdict = Refused r; regs = g; place = Leaf; han
 -- the checks that read the tables alone, 1 and 3: a walk makes them once
 abbrev pub checked : Inputs → Checked
 checked t =
-    record { fit = fitStack (t .stack) && fitXdata (t .xdata) && eqb (length (t .pdata) % 8) 0; sorted = ascending (map (λ e. e .start) (entries (t .pdata))) }
+    let c = Pdata.checked (t .pdata) in
+    record { fit = fitStack (t .stack) && fitXdata (t .xdata) && c .fit; sorted = c .sorted }

@@ -1,8 +1,8 @@
 // One frame: the checks of its inputs in document 01's order, the record of its pc, the place, and the caller. It knows neither lists
 // nor files.
 use machine::Regs;
+use pdata::Checked;
 use pdata::Found;
-use pdata::Sound;
 
 mod answer; // the caller by the record found
 
@@ -28,12 +28,6 @@ pub struct Unwound {
     pub place: Place,
     pub handler: u32,
     pub codes: usize,
-}
-
-// What the tables alone show: whether refusal 1 is not given for any input, and refusal 3 not for the .pdata.
-pub struct Checked {
-    pub fit: bool,
-    pub sorted: bool,
 }
 
 // 1 for the stack.
@@ -69,10 +63,10 @@ fn all_three(a: bool, b: bool, c: bool) -> bool
 pub fn check(pdata: &[u8], rva: u32, xdata: &[u8], base: u32, stack: &[u8]) -> Checked
     ensures { λ r. ⌜ r ≡ checked (inputs 0 (now (pdata .entry)) rva (now (xdata .entry)) base (now (stack .entry))) ⌝ }
 {
-    let sound = pdata::check(pdata);
+    let table = pdata::check(pdata);
     Checked {
-        fit: all_three(fit_stack(base, stack), xdata::fit(rva, xdata), sound.whole),
-        sorted: sound.ascending,
+        fit: all_three(fit_stack(base, stack), xdata::fit(rva, xdata), table.fit),
+        sorted: table.sorted,
     }
 }
 
@@ -121,11 +115,7 @@ pub fn frame_of(
     ensures { λ r. ⌜ (c ≡ checked (inputs image (now (pdata .entry)) rva (now (xdata .entry)) base (now (stack .entry))) → r ≡ unwound g (frameOf first (inputs image (now (pdata .entry)) rva (now (xdata .entry)) base (now (stack .entry))) g)) ⌝ }
 {
     if c.fit {
-        let sound = Sound {
-            whole: true,
-            ascending: c.sorted,
-        };
-        let found = pdata::find_in(sound, image, pdata, g.pc);
+        let found = pdata::find_in(c, image, pdata, g.pc);
         return after_find(first, found, image, rva, xdata, base, stack, g);
     }
     answer::refused(g, Refusal::UnfitInput)

@@ -15,7 +15,7 @@ use Rattle.words.specs.Little.{word32}
 use Rattle.words.specs.declared.Refusal.the-variants.{UnfitInput, PcBelowBase, StartsNotAscending}
 use Rattle.words.specs.Answer.{ok, refuse}
 use Rattle.unwinding.specs.View.{ascending}
-use Rattle.pdata.specs.Pdata.{entriesFrom, entries, entryAt, starts, lastUpTo, find}
+use Rattle.pdata.specs.Pdata.{entriesFrom, entries, entryAt, starts, lastUpTo, find, findRva}
 
 abbrev pub startAt : List ℕ → ℕ → ℕ
 startAt s i = even (word32 s (8 * i))
@@ -125,3 +125,17 @@ module _ (image : ℕ) (s : List ℕ) (pc : ℕ) where
       → find image s pc ≡ ok (lastUpTo (entries s) (even pc - image))
   unfolding find
   find-sorted h b up = rw (h, le-leb image (even pc) b, up) refl
+
+-- the same by an RVA
+module _ (s : List ℕ) (a : ℕ) where
+  pub rva-unfit : eqb (length s % 8) 0 ≡ false → findRva s a ≡ refuse UnfitInput
+  unfolding findRva
+  rva-unfit h = rw h refl
+
+  pub rva-unsorted : eqb (length s % 8) 0 ≡ true → ascending (starts s) ≡ false → findRva s a ≡ refuse StartsNotAscending
+  unfolding findRva
+  rva-unsorted h up = rw (h, up) refl
+
+  pub rva-sorted : eqb (length s % 8) 0 ≡ true → ascending (starts s) ≡ true → findRva s a ≡ ok (lastUpTo (entries s) a)
+  unfolding findRva
+  rva-sorted h up = rw (h, up) refl

@@ -11,17 +11,24 @@ use Rattle.words.specs.Answer.{Res, ok, need, if_then_else_, either, maybe, _>>
 use Rattle.unwinding.specs.View.{ascending}
 use Rattle.pdata.specs.declared.Entry.{Entry}
 use Rattle.pdata.specs.declared.Found.{Found}
-use Rattle.pdata.specs.declared.Sound.{Sound}
+use Rattle.pdata.specs.declared.Checked.{Checked}
 use Rattle.pdata.specs.declared.Found.the-variants.{Record, Nothing, Refused}
+
+-- the record of a number
+abbrev pub entryAt : List ℕ → ℕ → Entry
+entryAt s i = record { number = i; start = even (word32 s (8 * i)); word = word32 s (8 * i + 4) }
 
 -- n records, the first of which has this number
 unfoldable pub entriesFrom : List ℕ → (number n : ℕ) → List Entry
 entriesFrom s i zero = []
 entriesFrom s i (suc n) =
-    record { number = i; start = even (word32 s (8 * i)); word = word32 s (8 * i + 4) } ∷ entriesFrom s (i + 1) n
+    entryAt s i ∷ entriesFrom s (i + 1) n
 
 abbrev pub entries : List ℕ → List Entry
 entries s = entriesFrom s 0 (length s / 8)
+
+abbrev pub starts : List ℕ → List ℕ
+starts s = map (λ e. e .start) (entries s)
 
 -- "the record with the greatest start not above the pc", which in an ascending table is the last such
 unfoldable pub lastUpTo : List Entry → (rva : ℕ) → Option Entry
@@ -33,19 +40,19 @@ unfoldable pub find : (image : ℕ) → (pdata : List ℕ) → (pc : ℕ) → Re
 find image s pc = do
   need (eqb (length s % 8) 0) UnfitInput
   need (leb image (even pc)) PcBelowBase
-  need (ascending (map (λ e. e .start) (entries s))) StartsNotAscending
+  need (ascending (starts s)) StartsNotAscending
   ok (lastUpTo (entries s) (even pc - image))
 
 abbrev pub found : Res (Option Entry) → Found
 found r = either r Refused (λ e. maybe e Nothing Record)
 
--- the record of a number
-abbrev pub entryAt : List ℕ → ℕ → Entry
-entryAt s i = record { number = i; start = even (word32 s (8 * i)); word = word32 s (8 * i + 4) }
-
-abbrev pub starts : List ℕ → List ℕ
-starts s = map (λ e. e .start) (entries s)
+-- finding by an RVA: 1 for the length, 3, and then the record or none
+unfoldable pub findRva : (pdata : List ℕ) → (rva : ℕ) → Res (Option Entry)
+findRva s a = do
+  need (eqb (length s % 8) 0) UnfitInput
+  need (ascending (starts s)) StartsNotAscending
+  ok (lastUpTo (entries s) a)
 
 -- what finding asks of the table alone, and so once for a walk: 1 for its length and 3
-abbrev pub sound : List ℕ → Sound
-sound s = record { whole = eqb (length s % 8) 0; ascending = ascending (starts s) }
+abbrev pub checked : List ℕ → Checked
+checked s = record { fit = eqb (length s % 8) 0; sorted = ascending (starts s) }

@@ -8,7 +8,7 @@ ghost use Rattle.words.specs.Bits.{even as evenOf};
 ghost use Rattle.words.specs.Little.{word32};
 ghost use Rattle.words.specs.Answer.{ok, refuse};
 ghost use Rattle.unwinding.specs.View.{ascending as ascendingOf};
-ghost use Rattle.pdata.specs.Pdata.{entries, entryAt, starts, lastUpTo, find as findOf, found, sound};
+ghost use Rattle.pdata.specs.Pdata.{entries, entryAt, starts, lastUpTo, find as findOf, findRva, found, checked as checkedOf};
 
 // A .pdata record: its number in the table, its start RVA with bit 0 cleared, and its word 1.
 pub struct Entry {
@@ -24,10 +24,11 @@ pub enum Found {
     Refused(Refusal),
 }
 
-// What finding asks of the .pdata alone: its length is a multiple of 8, its starts strictly ascend.
-pub struct Sound {
-    pub whole: bool,
-    pub ascending: bool,
+// What was found to hold of tables before a record is looked for: refusal 1 is not given for any part (here: for the .pdata's length), and
+// refusal 3 not for its starts. A walk asks it once.
+pub struct Checked {
+    pub fit: bool,
+    pub sorted: bool,
 }
 
 // The number of records.
@@ -105,12 +106,12 @@ fn search(pdata: &[u8], rva: u32) -> Found
 }
 
 // What finding asks of the table alone: a walk asks it once.
-pub fn check(pdata: &[u8]) -> Sound
-    ensures { λ r. ⌜ r ≡ sound (now (pdata .entry)) ⌝ }
+pub fn check(pdata: &[u8]) -> Checked
+    ensures { λ r. ⌜ r ≡ checkedOf (now (pdata .entry)) ⌝ }
 {
-    Sound {
-        whole: pdata.len() % 8 == 0,
-        ascending: ascending(pdata),
+    Checked {
+        fit: pdata.len() % 8 == 0,
+        sorted: ascending(pdata),
     }
 }
 
@@ -122,20 +123,34 @@ fn refused(why: Refusal) -> Found
 }
 
 // Finding in a table that was checked, as a walk does for each frame: 1 for the length, 2, 3, and then the record or none.
-pub fn find_in(checked: Sound, image: u32, pdata: &[u8], pc: u32) -> Found
-    ensures { λ r. ⌜ (checked ≡ sound (now (pdata .entry)) → r ≡ found (findOf image (now (pdata .entry)) pc)) ⌝ }
+pub fn find_in(checked: Checked, image: u32, pdata: &[u8], pc: u32) -> Found
+    ensures { λ r. ⌜ (checked ≡ checkedOf (now (pdata .entry)) → r ≡ found (findOf image (now (pdata .entry)) pc)) ⌝ }
 {
-    if !checked.whole {
+    if !checked.fit {
         return refused(Refusal::UnfitInput);
     }
     let at = words::even(pc);
     if at < image {
         return refused(Refusal::PcBelowBase);
     }
-    if !checked.ascending {
+    if !checked.sorted {
         return refused(Refusal::StartsNotAscending);
     }
     search(pdata, at - image)
+}
+
+// Finding by an RVA: 1 for the length, 3, and then the last record that starts at or below it, or none.
+pub fn find_rva(pdata: &[u8], rva: u32) -> Found
+    ensures { λ r. ⌜ r ≡ found (findRva (now (pdata .entry)) rva) ⌝ }
+{
+    let c = check(pdata);
+    if !c.fit {
+        return refused(Refusal::UnfitInput);
+    }
+    if !c.sorted {
+        return refused(Refusal::StartsNotAscending);
+    }
+    search(pdata, rva)
 }
 
 // Finding the record for a pc.

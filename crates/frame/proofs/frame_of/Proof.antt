@@ -2,8 +2,8 @@
 -- Assumes nothing.
 use mathlib.Core.Path.{_≡_, refl, sym, ap, _∙_}
 use mathlib.Core.Bool.{true}
-use Rattle.pdata.specs.declared.Sound.{Sound}
-use Rattle.pdata.specs.Pdata.{find, sound}
+use Rattle.pdata.specs.declared.Checked.{Checked}
+use Rattle.pdata.specs.Pdata.{find, checked}
 use Rattle.frame.specs.Frame.{inputs, unwound}
 use Rattle.frame.proofs.Finding.{frame-unfit, frame-fit}
 use borrow.Author.Needs.{needs}
@@ -27,8 +27,8 @@ returns c =
     λ h.
     let t = inputs (a .image) (a .pdata .now) (a .rva) (a .xdata .now) (a .base) (a .stack .now) in
     let w = frame-fit (a .first) t (a .g) (sym (ap (λ x. x .fit) h) ∙ f .before .if1 .taken) in
-    let s : _≡_ {A = Sound} (record { whole = true; ascending = a .c .sorted }) (sound (a .pdata .now)) =
-    λ i. record { whole = sym (w .1) i; ascending = ap (λ x. x .sorted) h i } in
+    let s : _≡_ {A = Checked} (a .c) (checked (a .pdata .now)) =
+    λ i. record { fit = (f .before .if1 .taken ∙ sym (w .1)) i; sorted = ap (λ x. x .sorted) h i } in
     c .after-find .ensures (a .pdata .now) (find (a .image) (a .pdata .now) (a .g .pc)) (f .find-in .ensures s) ∙ sym (ap (unwound (a .g)) (w .0))
 
 refused-requires : tie.Need-refused-requires

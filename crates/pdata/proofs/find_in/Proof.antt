@@ -18,7 +18,7 @@ returns : tie.Need-returns
 returns c e =
     let a = c .before .before .before .before .args in
     c .refused .ensures
-    ∙ ap found (sym (find-unfit (a .image) (a .pdata .now) (a .pc) (sym (ap (λ k. k .whole) e) ∙ not-true (a .checked .whole) (c .before .if1 .taken))))
+    ∙ ap found (sym (find-unfit (a .image) (a .pdata .now) (a .pc) (sym (ap (λ k. k .fit) e) ∙ not-true (a .checked .fit) (c .before .if1 .taken))))
 
 even-requires : tie.Need-even-requires
 even-requires c κs = search needs
@@ -31,7 +31,7 @@ returns-2 c e =
     let a = c .before .before .before .before .before .before .args in
     let below : even (a .pc) < a .image = omega (arith, c .before .before .even .ensures, c .before .if2 .taken) in
     c .refused2 .ensures
-    ∙ ap found (sym (find-below (a .image) (a .pdata .now) (a .pc) (sym (ap (λ k. k .whole) e) ∙ not-false (a .checked .whole) (c .before .before .before .if1 .left)) below))
+    ∙ ap found (sym (find-below (a .image) (a .pdata .now) (a .pc) (sym (ap (λ k. k .fit) e) ∙ not-false (a .checked .fit) (c .before .before .before .if1 .left)) below))
 
 refused-requires-3 : tie.Need-refused-requires-3
 refused-requires-3 c κs = search needs
@@ -41,7 +41,7 @@ returns-3 c e =
     let a = c .before .before .before .before .before .before .before .before .args in
     let above : a .image ≤ even (a .pc) = omega (arith, c .before .before .before .before .even .ensures, c .before .before .before .if2 .left) in
     c .refused3 .ensures
-    ∙ ap found (sym (find-unsorted (a .image) (a .pdata .now) (a .pc) (sym (ap (λ k. k .whole) e) ∙ not-false (a .checked .whole) (c .before .before .before .before .before .if1 .left)) above (sym (ap (λ k. k .ascending) e) ∙ not-true (a .checked .ascending) (c .before .if3 .taken))))
+    ∙ ap found (sym (find-unsorted (a .image) (a .pdata .now) (a .pc) (sym (ap (λ k. k .fit) e) ∙ not-false (a .checked .fit) (c .before .before .before .before .before .if1 .left)) above (sym (ap (λ k. k .sorted) e) ∙ not-true (a .checked .sorted) (c .before .if3 .taken))))
 
 search-requires : tie.Need-search-requires
 search-requires c κs = search needs
@@ -50,10 +50,10 @@ returns-4 : tie.Need-returns-4
 returns-4 c e =
     let a = c .before .before .before .before .before .before .before .before .args in
     let above : a .image ≤ even (a .pc) = omega (arith, c .before .before .before .before .even .ensures, c .before .before .before .if2 .left) in
-    let up = sym (ap (λ k. k .ascending) e) ∙ not-false (a .checked .ascending) (c .before .if3 .left) in
+    let up = sym (ap (λ k. k .sorted) e) ∙ not-false (a .checked .sorted) (c .before .if3 .left) in
     c .search .ensures up
     ∙ ap (λ n. found (ok (lastUpTo (entries (a .pdata .now)) (n - a .image)))) (c .before .before .before .before .even .ensures)
-    ∙ ap found (sym (find-sorted (a .image) (a .pdata .now) (a .pc) (sym (ap (λ k. k .whole) e) ∙ not-false (a .checked .whole) (c .before .before .before .before .before .if1 .left)) above up))
+    ∙ ap found (sym (find-sorted (a .image) (a .pdata .now) (a .pc) (sym (ap (λ k. k .fit) e) ∙ not-false (a .checked .fit) (c .before .before .before .before .before .if1 .left)) above up))
 
 pub find-in-spec : {M : Type 1} → statement M
 find-in-spec =
