@@ -1,9 +1,9 @@
 // The vocabulary of document 01 that every other crate speaks: the three units, the refusals, the places; little-endian words of lent
 // bytes. It knows bytes, words and numbers, and neither records nor registers. No function asks anything of its caller.
 ghost use mathlib.Core.Path.{_≡_};
-ghost use Prim.Native.Nat.{_+_, _<_, _≤_};
+ghost use Prim.Native.Nat.{_+_, _^_, _<_, _≤_};
 ghost use lib.ListN.{length, getD};
-ghost use Rattle.words.specs.Bits.{even as evenOf};
+ghost use Rattle.words.specs.Bits.{bits as bitsOf, even as evenOf};
 ghost use Rattle.words.specs.Little.{word32 as word32Of, word64 as word64Of};
 ghost use Rattle.words.specs.Lent.{Lent, lent, holds as holdsOf, wordAt};
 ghost use Rattle.words.specs.Units.{halfwordBytes, stackBytes, codeWordBytes};
@@ -167,6 +167,20 @@ pub fn word_at(base: u32, s: &[u8], at: u64) -> u32
         return word32(s, 0);
     }
     word32(s, (at - low) as usize)
+}
+
+// `width` bits of a word from bit `low` up.
+pub fn bits(word: u32, low: u32, width: u32) -> u32
+    ensures { λ r. ⌜ (r ≡ bitsOf low width word) × (r < 2 ^ width) ⌝ }
+{
+    if 32 <= low {
+        return 0;
+    }
+    let high = word >> low;
+    if 32 <= width {
+        return high;
+    }
+    high % (1 << width)
 }
 
 // An address with bit 0 cleared.
