@@ -49,10 +49,10 @@ pub record-full :
     (first : Bool) (image : ℕ) (p : List ℕ) (b : ℕ) (x : List ℕ) (kb : ℕ) (ks : List ℕ) (e : Entry) (g : Regs) (o : ℕ) → bits 0 2 (e .word) ≡ 0
     → o ≡ even (g .pc) - image - e .start → byFull first (lent b x) (e .word) (lent kb ks) o g ≡ byRecord first (inputs image p b x kb ks) e g
 unfolding byRecord
-record-full first image p b x kb ks e g o h q = rw (shape-full (lent b x) e h, q) refl
+record-full first image p b x kb ks e g o h q = rw (shape-full (lent b x) (e .word) h, q) refl
 
 pub record-packed :
     (first : Bool) (image : ℕ) (p : List ℕ) (b : ℕ) (x : List ℕ) (kb : ℕ) (ks : List ℕ) (e : Entry) (g : Regs) (o : ℕ) → (bits 0 2 (e .word) ≡ 0 → ⊥)
     → o ≡ even (g .pc) - image - e .start → byPacked first (e .word) (lent kb ks) o g ≡ byRecord first (inputs image p b x kb ks) e g
 unfolding byRecord
-record-packed first image p b x kb ks e g o h q = rw (shape-packed (lent b x) e h, q) refl
+record-packed first image p b x kb ks e g o h q = rw (shape-packed (lent b x) (e .word) h, q) refl

@@ -6,9 +6,11 @@ use mathlib.Core.List.{List, [], _∷_}
 use mathlib.Core.Bool.{Bool}
 use native.Mathlib.Omega.{arith}
 use Rattle.words.specs.declared.Refusal.{Refusal}
-use Rattle.words.specs.Answer.{Res, ok, refuse, either, _>>=_, if_then_else_}
+use Rattle.words.specs.Answer.{Res, ok, refuse, either, verdict, _>>=_, if_then_else_}
 use Rattle.unwinding.specs.CodeList.{Codes, total}
-use Rattle.unwinding.specs.Shape.{startOf}
+use Rattle.unwinding.specs.Shape.{Shape, startOf}
+use Rattle.unwinding.specs.View.{view}
+use Rattle.words.specs.declared.Verdict.the-variants.{Refused as Refuses}
 use Rattle.unwinding.specs.declared.Scope.{Scope}
 use Rattle.codes.specs.declared.Code.{Code}
 use Rattle.codes.specs.declared.Scanned.the-variants.{Ends, Refused}
@@ -19,7 +21,8 @@ use Rattle.record.proofs.Shapes.{scopes-next}
 use Rattle.record.specs.as_coded.Plan.{scopeIn, scopesFrom}
 use Rattle.record.specs.declared.Scopes.{Scopes}
 use Rattle.words.specs.Units.{codeBytes, halfwords, halfwordBytes}
-use Rattle.place.specs.as_coded.Look.{wayOf, wayRead, see, lookFrom, unseen, noSpot, inSeen, spotOf}
+use Rattle.place.specs.as_coded.Look.{wayOf, wayRead, see, lookFrom, unseen, judged, noSpot, inSeen, spotOf}
+use Rattle.place.proofs.Placing.{view-looked, view-unread}
 use Rattle.place.specs.declared.Way.{Way}
 use Rattle.place.specs.declared.WayOf.the-variants.{Made, NoWay}
 use Rattle.place.specs.declared.Seen.{Seen}
@@ -91,3 +94,16 @@ pub spot-bad :
     → noSpot r ≡ spotOf s span f scopes o
 unfolding spotOf
 spot-bad s span f scopes o r q = rw (scanned-refused s (codeBytes 0) r q) refl
+
+-- the same for 6 and 7 alone
+module _ (sh : Shape) where
+  pub judge-made :
+      (o h t p : ℕ) → scanned (scan (sh .codes) (codeBytes 0)) ≡ Ends h t → p ≡ (if sh .fragment then 0 else halfwordBytes (halfwords h))
+      → judged (lookFrom (sh .codes) (sh .span) o (unseen (sh .span) p) (sh .scopes)) ≡ verdict (view size codesAt sh)
+  judge-made o h t p q e =
+      let m = scanned-ends (sh .codes) (codeBytes 0) h t q in
+      let b : p ≡ (if sh .fragment then 0 else total size (scan (sh .codes) (codeBytes 0) .list)) = e ∙ ap (λ k. if sh .fragment then 0 else k) (sym (m .list-bytes)) in
+      ap (λ k. judged (lookFrom (sh .codes) (sh .span) o (unseen (sh .span) k) (sh .scopes))) b ∙ view-looked sh o _ (m .end-bytes)
+
+  pub judge-bad : (r : Refusal) → scanned (scan (sh .codes) (codeBytes 0)) ≡ Refused r → Refuses r ≡ verdict (view size codesAt sh)
+  judge-bad r q = view-unread sh 0 r (scanned-refused (sh .codes) (codeBytes 0) r q)

@@ -17,7 +17,7 @@ use Rattle.words.specs.declared.Refusal.{Refusal}
 use Rattle.words.specs.declared.Refusal.the-variants.{BadLayout, InsideInstruction, Conditional}
 use Rattle.words.specs.declared.Verdict.{Verdict}
 use Rattle.words.specs.declared.Verdict.the-variants.{Given, Refused}
-use Rattle.words.specs.Answer.{Res, ok, refuse, _>>=_, _>>_, need, either, maybe, orElse, if_then_else_}
+use Rattle.words.specs.Answer.{Res, ok, refuse, _>>=_, _>>_, need, either, maybe, orElse, verdict, if_then_else_}
 use Rattle.unwinding.specs.CodeList.{Codes, total, endOf}
 use Rattle.unwinding.specs.Shape.{Shape, startOf}
 use Rattle.unwinding.specs.View.{Exit, View, Stretch, stretch, fits, exits, view}
@@ -30,7 +30,7 @@ use Rattle.codes.specs.declared.Skipped.the-variants.{At, Nowhere}
 use Rattle.codes.specs.Code.{size, scan, codesAt}
 use Rattle.codes.specs.Skip.{skipAt}
 use Rattle.codes.proofs.SkipEnds.{codesBehind, skip-ends, skip-ending}
-use Rattle.place.specs.as_coded.Look.{wayOf, inLine, hitOf, see, unseen, lookFrom, spot, noSpot, bySkip, skipped, ifAlways, inHit, inSeen, prologueOf, spotOf}
+use Rattle.place.specs.as_coded.Look.{wayOf, inLine, hitOf, see, unseen, lookFrom, spot, noSpot, bySkip, skipped, ifAlways, inHit, inSeen, judged, prologueOf, spotOf}
 use Rattle.place.specs.declared.Way.{Way}
 use Rattle.place.specs.declared.Hit.{Hit}
 use Rattle.place.specs.declared.Hit.the-variants.{Miss, In}
@@ -139,6 +139,44 @@ seen-fits span o seen (w ∷ ws) =
 same-stretches : (s : List ℕ) (ws : List Way) → map stretch (map (exitWay s) ws) ≡ map stretchOf ws
 same-stretches s [] = refl
 same-stretches s (w ∷ ws) = ap (λ l. stretchOf w ∷ l) (same-stretches s ws)
+
+fits-seen :
+    (s : List ℕ) (span o p : ℕ) (ws : List Way) → fits span p (map (exitWay s) ws) ≡ seenAll span o (unseen span p) ws .fits
+fits-seen s span o p ws =
+    fits-lined span p (map (exitWay s) ws) ∙ ap (λ l. leb p span && lined span 0 p l) (same-stretches s ws) ∙ sym (seen-fits span o (unseen span p) ws)
+
+-- 6 and 7 by the pass, whatever the offset
+module _ (sh : Shape) (o : ℕ) where
+  pub view-looked :
+      (n : ℕ) → scan (sh .codes) (codeBytes 0) .ending ≡ ok n
+      → (let p = prologueOf (sh .fragment) (record { list = scan (sh .codes) (codeBytes 0) .list; endSize = n }) in
+      judged (lookFrom (sh .codes) (sh .span) o (unseen (sh .span) p) (sh .scopes)) ≡ verdict (view size codesAt sh))
+  unfolding view
+  view-looked n e =
+      rw (e, exits-ways sh (sh .scopes), look-ways (sh .codes) (sh .span) o (unseen (sh .span) p) (sh .scopes)) (all (ways (sh .codes) (sh .span) (sh .scopes)))
+    where
+      first : Codes Code
+      first = record { list = scan (sh .codes) (codeBytes 0) .list; endSize = n }
+
+      p : ℕ
+      p = prologueOf (sh .fragment) first
+
+      last :
+          (es : List (Exit Code)) (b : Bool)
+          → (if b then Given else Refused BadLayout) ≡ verdict {A = View Code} (need b BadLayout >> ok (record { codes = first; prologue = p; exits = es }))
+      last es true = refl
+      last es false = refl
+
+      all :
+          (y : Res (List Way))
+          → judged (either y Bad (λ ws. All (seenAll (sh .span) o (unseen (sh .span) p) ws)))
+          ≡ verdict {A = View Code} ((y >>= λ ws. ok (map (exitWay (sh .codes)) ws)) >>= λ es. need (fits (sh .span) p es) BadLayout >> ok (record { codes = first; prologue = p; exits = es }))
+      all (refuse r) = refl
+      all (ok ws) = rw (fits-seen (sh .codes) (sh .span) o p ws) (last (map (exitWay (sh .codes)) ws) (seenAll (sh .span) o (unseen (sh .span) p) ws .fits))
+
+  pub view-unread : (r : Refusal) → scan (sh .codes) (codeBytes 0) .ending ≡ refuse r → Refused r ≡ verdict (view size codesAt sh)
+  unfolding view
+  view-unread r e = rw e refl
 
 -- which one the offset falls into
 hitAll : (offset : ℕ) → Hit → List Way → Hit
@@ -289,13 +327,6 @@ module _ (sh : Shape) (o : ℕ) where
       seen : (p : ℕ) (ws : List Way) → Looked
       seen p ws = All (seenAll (sh .span) o (unseen (sh .span) p) ws)
 
-      same-fits :
-          (p : ℕ) (ws : List Way)
-          → fits (sh .span) p (map (exitWay s) ws) ≡ seenAll (sh .span) o (unseen (sh .span) p) ws .fits
-      same-fits p ws =
-          fits-lined (sh .span) p (map (exitWay s) ws) ∙ ap (λ l. leb p (sh .span) && lined (sh .span) 0 p l) (same-stretches s ws)
-          ∙ sym (seen-fits (sh .span) o (unseen (sh .span) p) ws)
-
       last :
           (n : ℕ) (ws : List Way) → AllMade s ws → (b : Bool)
           → ((need b BadLayout >> ok (record { codes = first n; prologue = prologueOf (sh .fragment) (first n); exits = map (exitWay s) ws })) >>= λ v. todo size v o)
@@ -311,7 +342,7 @@ module _ (sh : Shape) (o : ℕ) where
       all n (refuse r) q = refl
       all n (ok ws) q =
           rw
-          (same-fits (prologueOf (sh .fragment) (first n)) ws, seen-hit (sh .span) o (unseen (sh .span) (prologueOf (sh .fragment) (first n))) ws)
+          (fits-seen s (sh .span) o (prologueOf (sh .fragment) (first n)) ws, seen-hit (sh .span) o (unseen (sh .span) (prologueOf (sh .fragment) (first n))) ws)
           (last n ws (ways-made s (sh .span) (sh .scopes) ws q) (seenAll (sh .span) o (unseen (sh .span) (prologueOf (sh .fragment) (first n))) ws .fits))
 
       go :

@@ -11,6 +11,7 @@ use unwinding::Start;
 use words::CodeBytes;
 use words::Halfwords;
 use words::Refusal;
+use words::Verdict;
 ghost use mathlib.Core.Path.{_≡_};
 ghost use mathlib.Core.Bool.{_&&_, _||_};
 ghost use Prim.Native.Nat.{ℕ, _+_, _-_, _^_, _≤_, _<_};
@@ -18,12 +19,13 @@ ghost use mathlib.Core.List.{List};
 ghost use lib.ListN.{length};
 ghost use lib.Dec.{leb, ltb};
 ghost use Rattle.words.specs.Units.{codeBytes, halfwords, halfwordBytes};
-ghost use Rattle.words.specs.Answer.{if_then_else_};
+ghost use Rattle.words.specs.Answer.{verdict, if_then_else_};
+ghost use Rattle.unwinding.specs.View.{view};
 ghost use Rattle.unwinding.specs.Shape.{startOf};
-ghost use Rattle.codes.specs.Code.{codesAt, scan as scanOf};
+ghost use Rattle.codes.specs.Code.{size, codesAt, scan as scanOf};
 ghost use Rattle.codes.specs.Reading.{scanned};
-ghost use Rattle.record.specs.as_coded.Plan.{scopesFrom};
-ghost use Rattle.place.specs.as_coded.Look.{wayRead, wayEnd, hitOf, see as seeOf, lookFrom, unseen as unseenOf};
+ghost use Rattle.record.specs.as_coded.Plan.{scopesFrom, shapeBy};
+ghost use Rattle.place.specs.as_coded.Look.{wayRead, wayEnd, hitOf, see as seeOf, lookFrom, judged as judgedOf, unseen as unseenOf};
 
 // Where an epilogue of this size starts in a function of this length.
 fn start_of(start: Start, span: u64, size: u64) -> u64
@@ -208,4 +210,36 @@ pub fn prologue_of(fragment: bool, list: u64) -> u64
     ensures { λ r. ⌜ r ≡ (if fragment then 0 else halfwordBytes (halfwords list)) ⌝ }
 {
     if fragment { 0 } else { bytes_of(list) }
+}
+
+// 6 and 7, by what the pass came to.
+fn judged(looked: Looked) -> Verdict
+    ensures { λ r. ⌜ r ≡ judgedOf looked ⌝ }
+{
+    match looked {
+        Looked::Bad(r) => Verdict::Refused(r),
+        Looked::All(seen) => {
+            if seen.fits {
+                Verdict::Given
+            } else {
+                Verdict::Refused(Refusal::BadLayout)
+            }
+        }
+    }
+}
+
+// 6 and 7 for a record's plan and code bytes. They are the same for each offset of the pass.
+pub fn judge(codes: &[u8], plan: Plan, xdata: &[u8]) -> Verdict
+    requires { ⌜ length (now codes) ≤ 1020 ⌝ }
+    ensures { λ r. ⌜ r ≡ verdict (view size codesAt (shapeBy plan (now (codes .entry)) (now (xdata .entry)))) ⌝ }
+{
+    let first = codes::scan(codes, CodeBytes(0));
+    match first {
+        Scanned::Ends(list, _) => {
+            let p = prologue_of(plan.fragment, list);
+            let seen = unseen(span_of(plan), p);
+            judged(look(codes, plan, xdata, 0, seen, first))
+        }
+        Scanned::Refused(r) => Verdict::Refused(r),
+    }
 }

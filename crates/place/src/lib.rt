@@ -19,6 +19,8 @@ ghost use Rattle.codes.specs.Skip.{skipAt};
 ghost use Rattle.record.specs.as_coded.Plan.{scopesFrom, fullPlan, fullAnswer, packedPlan, packedAnswer};
 ghost use Rattle.place.specs.as_coded.Look.{bySkip, inHit, inSeen, spotOf, noSpot as noSpotOf};
 ghost use Rattle.words.specs.Lent.{lent};
+ghost use Rattle.words.specs.Answer.{verdict};
+ghost use Rattle.place.specs.Judged.{fullView, packedView, viewAt};
 ghost use Rattle.place.specs.as_coded.Placed.{refusedOf, inPlan, fullPlaced, packedPlaced};
 // An epilogue as its codes make it: it takes the bytes from start up to start + size.
 pub struct Way {
@@ -269,4 +271,48 @@ pub fn packed(word: u32, o: u64) -> PackedPlaced
             PackedPlaced { at, bytes }
         }
     }
+}
+
+// 4 to 7 for the full record at an RVA.
+fn judge_full(rva: u32, xdata: &[u8], at: u32) -> Verdict
+    ensures { λ r. ⌜ r ≡ verdict (fullView (lent rva (now (xdata .entry))) at) ⌝ }
+{
+    let f = record::full(rva, xdata, at);
+    let verdict = f.verdict;
+    match verdict {
+        Verdict::Refused(_) => verdict,
+        Verdict::Given => {
+            let codes = f.codes;
+            let start = codes.start;
+            let end = start + codes.len;
+            let plan = f.plan;
+            layout::judge(&xdata[start..end], plan, xdata)
+        }
+    }
+}
+
+// 4, 6 and 7 for a packed word.
+fn judge_packed(word: u32) -> Verdict
+    ensures { λ r. ⌜ r ≡ verdict (packedView word) ⌝ }
+{
+    let f = record::packed(word);
+    let verdict = f.verdict;
+    match verdict {
+        Verdict::Refused(_) => verdict,
+        Verdict::Given => {
+            let bytes = f.bytes;
+            let plan = f.plan;
+            layout::judge(&bytes, plan, &bytes)
+        }
+    }
+}
+
+// 4 to 7 for word 1 of a .pdata record, without a pc.
+pub fn judge(rva: u32, xdata: &[u8], word: u32) -> Verdict
+    ensures { λ r. ⌜ r ≡ verdict (viewAt (lent rva (now (xdata .entry))) word) ⌝ }
+{
+    if words::bits(word, 0, 2) == 0 {
+        return judge_full(rva, xdata, word);
+    }
+    judge_packed(word)
 }

@@ -16,15 +16,17 @@ use Rattle.words.specs.Units.{codeBytes, codeWordBytes, halfwordBytes}
 use Rattle.words.specs.declared.Refusal.{Refusal}
 use Rattle.words.specs.declared.Refusal.the-variants.{Reserved}
 use Rattle.words.specs.declared.CodeBytes.{CodeBytes}
-use Rattle.words.specs.Answer.{Res, ok, refuse, need, _>>_, _>>=_, if_then_else_}
+use Rattle.words.specs.declared.Verdict.{Verdict}
+use Rattle.words.specs.declared.Verdict.the-variants.{Given, Refused}
+use Rattle.words.specs.Answer.{verdict, Res, ok, refuse, need, _>>_, _>>=_, if_then_else_}
 use Rattle.unwinding.specs.Shape.{Shape}
 use Rattle.unwinding.specs.declared.Scope.{Scope}
 use Rattle.xdata.specs.Xdata.{E, F, scopeCount, codesOffset, recordBytes, headAt}
 use Rattle.packed.specs.Packed.{fields, allowed}
 use Rattle.packed_codes.specs.PackedCodes.{firstList, secondList, written, writeCodes}
-use Rattle.record.specs.Record.{lastScope, fullShape, packedShape, shapeOf}
+use Rattle.record.specs.Record.{lastScope, fullShape, packedShape, shapeAt}
 use Rattle.xdata.specs.Scopes.{scopeOf, scopesAt}
-use Rattle.record.specs.as_coded.Plan.{scopeIn, scopesFrom, scopesOf, planOf, fullBy, afterHead, fullPlan, fullAnswer, shapeBy, fullShapeBy, packedPlanBy, packedBy, packedPlan, packedAnswer, packedShapeBy}
+use Rattle.record.specs.as_coded.Plan.{byVerdict, scopeIn, scopesFrom, scopesOf, planOf, fullBy, afterHead, fullPlan, fullAnswer, shapeBy, fullShapeBy, packedPlanBy, packedBy, packedPlan, packedAnswer, packedShapeBy}
 use Rattle.xdata.specs.as_coded.Scopes.{resZero}
 use Rattle.xdata.specs.declared.Head.{Head}
 use Rattle.record.specs.declared.Scopes.{Scopes}
@@ -33,7 +35,6 @@ use Rattle.record.specs.declared.FullOf.{FullOf}
 use Rattle.packed.specs.declared.Packed.{Packed}
 use Rattle.packed_codes.specs.declared.CodesOf.{CodesOf}
 use Rattle.record.specs.declared.PackedOf.{PackedOf}
-use Rattle.pdata.specs.declared.Entry.{Entry}
 use Rattle.record.specs.Record as Record
 use Rattle.words.proofs.Tests.{if-true, if-false}
 use Rattle.xdata.proofs.Heads.{head-small}
@@ -258,11 +259,22 @@ packed-shape w s f is = go (writeCodes w) refl
         packed-shape-refused w why e ∙ sym (ap (λ f. packedShapeBy f s) (is ∙ ap packedAnswer (packed-refused w why e)))
 
 -- the shape of a .pdata record, by its Flag
-pub shape-full : (x : Lent) (e : Entry) → bits 0 2 (e .word) ≡ 0 → shapeOf x e ≡ fullShape x (e .word)
-shape-full x e h = rw (eq-eqb (bits 0 2 (e .word)) 0 h) refl
+pub shape-full : (x : Lent) (w : ℕ) → bits 0 2 w ≡ 0 → shapeAt x w ≡ fullShape x w
+shape-full x w h = rw (eq-eqb (bits 0 2 w) 0 h) refl
 
-pub shape-packed : (x : Lent) (e : Entry) → (bits 0 2 (e .word) ≡ 0 → ⊥) → shapeOf x e ≡ packedShape (e .word)
-shape-packed x e h = rw (ne-eqb (bits 0 2 (e .word)) 0 h) refl
+pub shape-packed : (x : Lent) (w : ℕ) → (bits 0 2 w ≡ 0 → ⊥) → shapeAt x w ≡ packedShape w
+shape-packed x w h = rw (ne-eqb (bits 0 2 w) 0 h) refl
+
+-- an answer's verdict is the shape's
+told : (v : Verdict) (sh : Shape) → v ≡ verdict (byVerdict v sh)
+told Given sh = refl
+told (Refused r) sh = refl
+
+pub full-told : (b : ℕ) (s : List ℕ) (a : ℕ) (f : FullOf) → f ≡ fullAnswer (fullPlan (lent b s) a) → f .verdict ≡ verdict (fullShape (lent b s) a)
+full-told b s a f is = told (f .verdict) _ ∙ sym (ap verdict (full-shape b s a f is))
+
+pub packed-told : (w : ℕ) (f : PackedOf) → f ≡ packedAnswer (packedPlan w) → f .verdict ≡ verdict (packedShape w)
+packed-told w f is = told (f .verdict) _ ∙ sym (ap verdict (packed-shape w [] f is))
 
 -- a packed record has few code bytes
 pub packed-few : (w : ℕ) (f : PackedOf) → f ≡ packedAnswer (packedPlan w) → length (f .bytes) ≤ 1020

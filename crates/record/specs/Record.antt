@@ -41,6 +41,9 @@ packedShape w = do
   let p = fields w
   ok (record { span = halfwordBytes (p .length); codes = c .bytes; fragment = eqb (p .flag) 2; scopes = if eqb (p .ret) 3 then [] else lastScope (c .first) ∷ []; handler = 0 })
 
--- "Flag (0: the word is the xdata RVA; 1 packed; 2 packed without prologue)"
+-- by Flag: 0, the word is the RVA of a full record; else packed
+abbrev pub shapeAt : Lent → (word : ℕ) → Res Shape
+shapeAt x w = if eqb (bits 0 2 w) 0 then fullShape x w else packedShape w
+
 abbrev pub shapeOf : Lent → Entry → Res Shape
-shapeOf x e = if eqb (bits 0 2 (e .word)) 0 then fullShape x (e .word) else packedShape (e .word)
+shapeOf x e = shapeAt x (e .word)

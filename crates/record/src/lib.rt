@@ -12,7 +12,8 @@ ghost use mathlib.Core.Path.{_≡_};
 ghost use Prim.Native.Nat.{_+_, _-_, _≤_, _<_};
 ghost use lib.Dec.{eqb};
 ghost use Rattle.words.specs.Lent.{lent};
-ghost use Rattle.words.specs.Answer.{refuse, if_then_else_};
+ghost use Rattle.words.specs.Answer.{refuse, verdict, if_then_else_};
+ghost use Rattle.record.specs.Record.{shapeAt};
 ghost use Rattle.packed.specs.Packed.{Fit};
 ghost use Rattle.xdata.specs.Xdata.{E};
 ghost use Rattle.record.specs.as_coded.Plan.{scopeIn, scopesOf, planOf, fullBy, afterHead, fullPlan, fullAnswer, noPlan, packedPlanBy, packedBy, packedPlan, packedAnswer};
@@ -232,4 +233,16 @@ pub fn packed(word: u32) -> PackedOf
         Verdict::Given => packed_by(word, c),
         Verdict::Refused(why) => no_packed(why),
     }
+}
+
+// 4 and 5 for word 1 of a .pdata record.
+pub fn judge(rva: u32, xdata: &[u8], word: u32) -> Verdict
+    ensures { λ r. ⌜ r ≡ verdict (shapeAt (lent rva (now (xdata .entry))) word) ⌝ }
+{
+    if words::bits(word, 0, 2) == 0 {
+        let f = full(rva, xdata, word);
+        return f.verdict;
+    }
+    let p = packed(word);
+    p.verdict
 }

@@ -10,6 +10,7 @@ use Rattle.words.specs.declared.Place.{Place}
 use Rattle.words.specs.declared.Place.the-variants.{Leaf, Prologue, Body, Epilogue}
 use Rattle.words.specs.declared.Refusal.{Refusal}
 use Rattle.words.specs.declared.Refusal.the-variants.{BadLayout, InsideInstruction, Conditional}
+use Rattle.words.specs.declared.Verdict.{Verdict}
 use Rattle.words.specs.declared.Verdict.the-variants.{Given, Refused}
 use Rattle.words.specs.Units.{codeBytes}
 use Rattle.words.specs.Answer.{Res, either, if_then_else_}
@@ -69,6 +70,11 @@ unfoldable pub lookFrom : (codes : List ℕ) → (span offset : ℕ) → Seen �
 lookFrom s span o seen [] = All seen
 lookFrom s span o seen (e ∷ es) =
     either (codesAt s (e .index)) Bad (λ c. lookFrom s span o (see span o seen (wayOf span e c)) es)
+
+-- 6 and 7, by what the pass came to
+abbrev pub judged : Looked → Verdict
+judged (Bad r) = Refused r
+judged (All seen) = if seen .fits then Given else Refused BadLayout
 
 -- a place, the index of the first code that runs there; a refusal has place leaf and index 0
 abbrev pub spot : Place → CodeBytes → Spot

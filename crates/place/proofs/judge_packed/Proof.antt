@@ -1,0 +1,52 @@
+-- By the record's verdict. Assumes nothing.
+use mathlib.Core.Path.{_∙_}
+use Rattle.record.proofs.Shapes.{packed-few}
+use Rattle.place.proofs.Answered.{judged-packed-refused, judged-packed-given}
+use borrow.Author.Needs.{needs}
+use Rattle.place.proofs.judge_packed.Statement.{statement}
+use Rattle.place.proofs.judge_packed.Tie as tie
+use Rattle.place.proofs.layout.judge.Reads as judge-reads
+use Rattle.record.proofs.packed.Reads as packed-reads
+
+packed-requires : tie.Need-packed-requires
+packed-requires c κs = search needs
+
+enum-told : tie.Need-enum-told
+enum-told c = search needs
+
+enum-told-2 : tie.Need-enum-told-2
+enum-told-2 c = search needs
+
+slice-aggregate-judge : tie.Need-slice-aggregate-judge
+slice-aggregate-judge c = search needs
+
+slice-aggregate-judge-2 : tie.Need-slice-aggregate-judge-2
+slice-aggregate-judge-2 c = search needs
+
+judge-requires : tie.Need-judge-requires
+judge-requires c κs =
+    let y = c .before .before .before .before .before .before in
+    packed-few (y .before .args .word) (y .packed .result) (y .packed .ensures)
+
+returns : tie.Need-returns
+returns c =
+    let y = c .before .before in
+    judged-packed-refused (y .before .args .word) (y .packed .result) (y .packed .ensures) _ (c .enum-told .given .1)
+
+returns-2 : tie.Need-returns-2
+returns-2 c =
+    let y = c .before .before .before .before .before .before .before in
+    c .judge .ensures ∙ judged-packed-given (y .before .args .word) (y .packed .result) (y .packed .ensures) (c .before .before .before .before .before .enum-told2 .given .1)
+
+pub judge-packed-spec : {M : Type 1} → statement M
+judge-packed-spec =
+    tie.close
+    (tie.spec
+    packed-requires
+    enum-told
+    enum-told-2
+    slice-aggregate-judge
+    slice-aggregate-judge-2
+    judge-requires
+    returns
+    returns-2)

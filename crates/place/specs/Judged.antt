@@ -1,0 +1,17 @@
+-- 4 to 7 for word 1 of a .pdata record, without a pc: its record's view.
+use Prim.Native.Nat.{ℕ}
+use Rattle.words.specs.Answer.{Res, _>>=_}
+use Rattle.words.specs.Lent.{Lent}
+use Rattle.unwinding.specs.View.{View, view}
+use Rattle.codes.specs.Code.{size, codesAt}
+use Rattle.codes.specs.declared.Code.{Code}
+use Rattle.record.specs.Record.{fullShape, packedShape, shapeAt}
+
+abbrev pub fullView : Lent → (at : ℕ) → Res (View Code)
+fullView x a = fullShape x a >>= view size codesAt
+
+abbrev pub packedView : (word : ℕ) → Res (View Code)
+packedView w = packedShape w >>= view size codesAt
+
+abbrev pub viewAt : Lent → (word : ℕ) → Res (View Code)
+viewAt x w = shapeAt x w >>= view size codesAt
