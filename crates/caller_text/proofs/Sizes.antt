@@ -14,8 +14,8 @@ use Rattle.frame.specs.declared.Unwound.{Unwound}
 use Rattle.text.specs.Text.{text, digits, decimalLength, numbered}
 use Rattle.text.proofs.Numbers.{decimal-limit, hex8-length}
 use Rattle.report.specs.Report.{Report, report}
-use Rattle.report.specs.Listing.{refusedText}
-use Rattle.report.proofs.Sizes.{place-length, refused-length}
+use Rattle.listing.specs.Listing.{refusedText}
+use Rattle.listing.proofs.Sizes.{place-length, refused-length}
 use Rattle.caller_text.specs.CallerText.{regsText, verdictText, unwoundText, callerText}
 
 -- the pieces of the caller's text: every register takes as much as any

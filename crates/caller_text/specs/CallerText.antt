@@ -24,7 +24,7 @@ use Rattle.frame.specs.Frame.{frame, unwound}
 use Rattle.frame.specs.declared.Unwound.{Unwound}
 use Rattle.report.specs.Report.{report}
 use Rattle.text.specs.Text.{text, decimal, hex8, hex16, numbered}
-use Rattle.report.specs.Listing.{placeName, refusedText}
+use Rattle.listing.specs.Listing.{placeName, refusedText}
 
 -- a register's line: its name, and its value in 8 or 16 hex digits
 abbrev pub wordLine : (name : List ℕ) → ℕ → List ℕ

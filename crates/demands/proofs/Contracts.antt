@@ -24,7 +24,7 @@ use Rattle.walking.specs.Walk.{Trail, walk, walked, filled, walkedAll}
 use Rattle.walking.specs.declared.WalkedAll.{WalkedAll}
 use Rattle.walking.proofs.walk as Walk
 use Rattle.text.specs.Overlay.{overlay}
-use Rattle.report.specs.Parts.{parts}
+use Rattle.report.specs.as_coded.Parts.{parts}
 use Rattle.pdata.proofs.find.Kinds as Find·kinds
 use Rattle.pdata.proofs.find.Reads as Find
 use Rattle.frame.proofs.unwind.Kinds as Unwind·kinds
@@ -39,8 +39,8 @@ use Rattle.packed_codes.proofs.write_codes.Kinds as Codes·kinds
 use Rattle.packed_codes.proofs.write_codes.Reads as Codes
 use Rattle.report.proofs.read_report.Kinds as Read·kinds
 use Rattle.report.proofs.read_report.Reads as Read
-use Rattle.report.proofs.list_report.Kinds as List·kinds
-use Rattle.report.proofs.list_report.Reads as Listed
+use Rattle.listing.proofs.list_report.Kinds as List·kinds
+use Rattle.listing.proofs.list_report.Reads as Listed
 use Rattle.caller_text.proofs.show_caller.Kinds as Show·kinds
 use Rattle.caller_text.proofs.show_caller.Reads as Show
 use Rattle.exports.proofs.leafbobbin_walk.Kinds as CWalk·kinds

@@ -34,9 +34,9 @@ use Rattle.frame.specs.Frame.{Inputs, Caller, fitStack, returned, within, frame
 use Rattle.walking.specs.Walk.{walk}
 use Rattle.walking.specs.declared.Stop.the-variants.{End}
 use Rattle.report.specs.Report.{report, mark}
-use Rattle.report.specs.Listing.{listing}
+use Rattle.listing.specs.Listing.{listing}
 use Rattle.text.specs.Text.{text}
-use Rattle.report.proofs.Opened.{opened}
+use Rattle.listing.proofs.Opened.{opened}
 use Rattle.words.proofs.Bytes.{bytesOf}
 use Rattle.record.proofs.At.{at, says}
 use Rattle.forward.specs.Met.{At}

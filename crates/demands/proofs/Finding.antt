@@ -21,7 +21,7 @@ use Rattle.pdata.specs.declared.Entry.{Entry}
 use Rattle.pdata.specs.declared.Found.{Found}
 use Rattle.pdata.specs.declared.Found.the-variants.{Record, Nothing, Refused}
 use Rattle.pdata.proofs.Finding.{startAt}
-use Rattle.report.proofs.Opened.{opened}
+use Rattle.listing.proofs.Opened.{opened}
 use Rattle.demands.specs.Reader.{ours}
 use Rattle.demands.specs.FindLaws.{Greatest, FindLaws}
 use Rattle.demands.specs.Shams.{first-only}

@@ -22,7 +22,7 @@ use Rattle.walking.specs.declared.Stop.{Stop}
 use Rattle.walking.specs.declared.Stop.the-variants as Stop
 use Rattle.walking.specs.declared.Walked.{Walked}
 use Rattle.walking.specs.declared.WalkedAll.{WalkedAll}
-use Rattle.report.proofs.Opened.{opened}
+use Rattle.listing.proofs.Opened.{opened}
 use Rattle.demands.specs.Reader.{Reader, ours}
 use Rattle.demands.specs.Demand1.{Untouched, Demand1}
 use Rattle.demands.specs.WalkLaws.{reached, codesRun, Why, itself, uncovered, still, Stops, Onward, Follows, WalkLaws}

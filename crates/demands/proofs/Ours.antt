@@ -20,8 +20,8 @@ use Rattle.walking.specs.Walk.{Trail, nextFrame, stopped, walkFrom, walk, walke
 use Rattle.walking.specs.declared.Frame.{Frame}
 use Rattle.walking.specs.declared.Stop.{Stop}
 use Rattle.walking.specs.declared.Stop.the-variants as Stop
-use Rattle.report.proofs.Room.{walk-room}
-use Rattle.report.proofs.Sizes.{listing-fits}
+use Rattle.listing.proofs.Room.{walk-room}
+use Rattle.listing.proofs.Sizes.{listing-fits}
 use Rattle.caller_text.proofs.Sizes.{caller-fits}
 use Rattle.forward.specs.Demand.{Demand3}
 use Rattle.forward.proofs.Framed as Framed

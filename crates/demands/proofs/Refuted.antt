@@ -19,7 +19,7 @@ use Rattle.walking.specs.Walk.{walk, walkedAll}
 use Rattle.walking.specs.declared.Frame.{Frame}
 use Rattle.walking.specs.declared.Stop.the-variants.{End}
 use Rattle.walking.specs.declared.WalkedAll.{WalkedAll}
-use Rattle.report.proofs.Opened.{opened}
+use Rattle.listing.proofs.Opened.{opened}
 use Rattle.forward.specs.State.{Whole}
 use Rattle.forward.specs.Demand.{Demand3, Finds}
 use Rattle.forward.proofs.Memory.{outside-same}

@@ -17,8 +17,8 @@ use Rattle.xdata.specs.Xdata.{fitXdata, recordBytes, shortHead, longHead, headA
 use Rattle.xdata.specs.as_coded.Heads.{wholeRecord}
 use Rattle.xdata.specs.declared.Head.{Head}
 use Rattle.xdata.proofs.Heads.{longOf, head-small}
-use Rattle.words.proofs.Answers.{bind-ok, need-ok}
-use Rattle.report.proofs.Opened.{opened}
+use Rattle.words.proofs.Answers.{bind-ok, need-ok, ok-same}
+use Rattle.listing.proofs.Opened.{opened}
 use Rattle.demands.specs.Reader.{ours}
 use Rattle.demands.specs.SizeLaws.{wordCount, SizeLaws}
 use Rattle.demands.specs.Shams.{resized, handlerless}
@@ -35,21 +35,18 @@ long-words w v q = rw q (by-words 2 (if bit 21 w then 0 else bits 0 16 v) (bits 
 short-words : (w v : ℕ) → eqb (bits 23 9 w) 0 ≡ false → recordBytes (shortHead w) ≡ 4 * wordCount w v
 short-words w v q = rw q (by-words 1 (if bit 21 w then 0 else bits 23 5 w) (bits 28 4 w) (bit 20 w))
 
-same : {A : Type 0} (a b : A) → ok a ≡ ok b → a ≡ b
-same a b h = cc
-
 -- ---- the head that is read
 long-is : (x : Lent) (a w : ℕ) (h : Head) → longHead x a w ≡ ok h → longOf w (wordAt x (a + 4)) ≡ h
 unfolding longHead
 long-is x a w h e =
     let p = need-ok (holds x a 8) OutsideXdata _ h e in
     let q = need-ok (eqb (bits 24 8 (wordAt x (a + 4))) 0) Reserved _ h (p .1) in
-    same _ h (q .1)
+    ok-same _ h (q .1)
 
 kind-words : (x : Lent) (a w : ℕ) (h : Head) (long : Bool) → eqb (bits 23 9 w) 0 ≡ long → (if long then longHead x a w else ok (shortHead w)) ≡ ok h
     → recordBytes h ≡ 4 * wordCount w (wordAt x (a + 4))
 kind-words x a w h true q e = ap recordBytes (sym (long-is x a w h e)) ∙ long-words w (wordAt x (a + 4)) q
-kind-words x a w h false q e = ap recordBytes (sym (same (shortHead w) h e)) ∙ short-words w (wordAt x (a + 4)) q
+kind-words x a w h false q e = ap recordBytes (sym (ok-same (shortHead w) h e)) ∙ short-words w (wordAt x (a + 4)) q
 
 head-words : (x : Lent) (a : ℕ) (h : Head) → headAt x a ≡ ok h → recordBytes h ≡ 4 * wordCount (wordAt x a) (wordAt x (a + 4))
 unfolding headAt
@@ -67,7 +64,7 @@ unfolding xdataSize
 size-head x at n e =
     let p = need-ok (fitXdata x) UnfitInput _ n e in
     let q = bind-ok (headAt x (at - at % 4)) (λ h. ok (recordBytes h)) n (p .1) in
-    (q .0, q .1, same _ n (q .2))
+    (q .0, q .1, ok-same _ n (q .2))
 
 size-is : (r : Res ℕ) → verdict r ≡ Given → r ≡ ok (sizeAnswer r .bytes)
 size-is (ok n) v = refl

@@ -12,10 +12,10 @@ use borrow.Author.Tests.{leb-true, leb-false, eqb-true, eqb-false}
 use Rattle.words.specs.Lent.{lent, wordAt}
 use Rattle.words.specs.declared.Refusal.the-variants.{UnfitReport}
 use Rattle.words.specs.Answer.{ok, refuse}
-use Rattle.report.specs.Report.{Report, report, headBytes}
-use Rattle.report.specs.Listing.{printed, listing}
-use Rattle.report.proofs.Reading.{wholeOf, too-short, not-whole}
-use Rattle.report.proofs.Opened.{opened}
+use Rattle.report.specs.Report.{Report, report, headBytes, endAt}
+use Rattle.listing.specs.Listing.{printed, listing}
+use Rattle.report.proofs.Reading.{too-short, not-whole}
+use Rattle.listing.proofs.Opened.{opened}
 use Rattle.caller_text.specs.CallerText.{callerText}
 use Rattle.text.specs.Text.{text}
 use Rattle.demands.specs.Reader.{ours}
@@ -35,7 +35,7 @@ module _ (file more : List ℕ) where
   same-word : (i : ℕ) → i + 4 ≤ length file → wordAt (lent 0 (file ++ more)) i ≡ wordAt (lent 0 file) i
   same-word i h = more-word (lent 0 file) (lent 0 (file ++ more)) (record { before = []; after = more; base = refl; bytes = refl }) i (omega arith) (omega (arith, h))
 
-  same-whole : headBytes ≤ length file → wholeOf (file ++ more) ≡ wholeOf file
+  same-whole : headBytes ≤ length file → endAt (file ++ more) ≡ endAt file
   same-whole h = rw (same-word 12 (omega (arith, h)), same-word 20 (omega (arith, h)), same-word 28 (omega (arith, h))) refl
 
 some-more : (more : List ℕ) → more ≢ [] → 0 < length more
@@ -43,12 +43,12 @@ some-more [] h = absurd (h refl)
 some-more (b ∷ more) h = omega arith
 
 pub whole-file : (file more : List ℕ) → more ≢ [] → Unfit ours file ⊎ Unfit ours (file ++ more)
-whole-file file more h = go (leb headBytes (length file)) (eqb (length file) (wholeOf file)) refl refl
+whole-file file more h = go (leb headBytes (length file)) (eqb (length file) (endAt file)) refl refl
   where
-    longer : headBytes ≤ length file → length file ≡ wholeOf file → length (file ++ more) ≢ wholeOf (file ++ more)
+    longer : headBytes ≤ length file → length file ≡ endAt file → length (file ++ more) ≢ endAt (file ++ more)
     longer a e q = omega (arith, length-append file more, some-more more h, same-whole file more a, e, q)
 
-    go : (a b : Bool) → leb headBytes (length file) ≡ a → eqb (length file) (wholeOf file) ≡ b → Unfit ours file ⊎ Unfit ours (file ++ more)
+    go : (a b : Bool) → leb headBytes (length file) ≡ a → eqb (length file) (endAt file) ≡ b → Unfit ours file ⊎ Unfit ours (file ++ more)
     go false b p q = inl (unfit file (too-short file (leb-false headBytes (length file) p)))
-    go true false p q = inl (unfit file (not-whole file (eqb-false (length file) (wholeOf file) q)))
-    go true true p q = inr (unfit (file ++ more) (not-whole (file ++ more) (longer (leb-true headBytes (length file) p) (eqb-true (length file) (wholeOf file) q))))
+    go true false p q = inl (unfit file (not-whole file (eqb-false (length file) (endAt file) q)))
+    go true true p q = inr (unfit (file ++ more) (not-whole (file ++ more) (longer (leb-true headBytes (length file) p) (eqb-true (length file) (endAt file) q))))

@@ -18,7 +18,7 @@ use Rattle.frame.specs.declared.Unwound.{Unwound}
 use Rattle.walking.specs.Walk as Walking
 use Rattle.walking.specs.declared.Frame.{Frame}
 use Rattle.walking.specs.declared.WalkedAll.{WalkedAll}
-use Rattle.report.specs.Listing.{listing}
+use Rattle.listing.specs.Listing.{listing}
 use Rattle.caller_text.specs.CallerText.{callerText}
 
 -- "finding the record for a pc; one frame; a walk; an xdata record's byte size; writing packed words and their code bytes; a program

@@ -12,7 +12,7 @@ ghost use Rattle.xdata.specs.Xdata.{xdataSize, sizeAnswer};
 ghost use Rattle.packed.specs.Packed.{writeWord, wordAnswer};
 ghost use Rattle.packed_codes.specs.PackedCodes.{writeCodes, codesAnswer};
 ghost use Rattle.text.specs.Overlay.{overlay};
-ghost use Rattle.report.specs.Listing.{listing};
+ghost use Rattle.listing.specs.Listing.{listing};
 ghost use Rattle.caller_text.specs.CallerText.{callerText};
 ghost use Rattle.exports.specs.Numbers.{foundNumbers, foundRefusal, fieldsIn, lengths};
 
@@ -24,7 +24,7 @@ ghost use Rattle.exports.specs.Numbers.{foundNumbers, foundRefusal, fiel
 pub extern "C" fn leafbobbin_walk(report: &[u8], out: &mut [u8]) -> usize
     ensures { λ r. ⌜ (r ≡ length (listing (now (report .entry)))) × (now (out .exit) ≡ overlay (now (out .entry)) 0 (listing (now (report .entry)))) ⌝ }
 {
-    report::list_report(report, out)
+    listing::list_report(report, out)
 }
 
 // One frame's answer with every register: at most 1,024 bytes.

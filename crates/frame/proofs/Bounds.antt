@@ -5,76 +5,33 @@ use mathlib.Core.Path.{_≡_, sym, ap, _∙_}
 use mathlib.Core.List.{List, _∷_, _++_, []}
 use mathlib.Core.Bool.{Bool, true, false, _&&_}
 use mathlib.Core.Option.{Option, none, some}
-use lib.ListN.{length, drop, replicate, length-take}
-use lib.Dec.{leb, ltb, eqb}
+use lib.ListN.{length}
+use lib.Dec.{leb, ltb}
 use native.Mathlib.Omega.{arith}
 use borrow.Author.Tests.{leb-true}
-use Rattle.words.specs.Bits.{bits, even}
+use Rattle.words.specs.Bits.{even}
 use Rattle.words.specs.Lent.{Lent}
-use Rattle.words.specs.Units.{codeWordBytes, halfwordBytes}
 use Rattle.words.specs.declared.Place.{Place}
 use Rattle.words.specs.declared.CodeBytes.{CodeBytes}
-use Rattle.words.specs.declared.Refusal.the-variants.{UnfitInput, BadStack, SpFell, Reserved}
+use Rattle.words.specs.declared.Refusal.the-variants.{UnfitInput, BadStack, SpFell}
 use Rattle.words.specs.declared.Verdict.{Verdict}
 use Rattle.words.specs.declared.Verdict.the-variants.{Given, Refused}
 use Rattle.words.specs.Answer.{Res, ok, _>>=_, _>>_, need, maybe, if_then_else_}
 use Rattle.unwinding.specs.Shape.{Shape}
-use Rattle.words.proofs.Answers.{bind-ok, need-ok}
+use Rattle.words.proofs.Answers.{bind-ok, need-ok, ok-same}
+use Rattle.record.proofs.Shapes.{shape-few}
 use Rattle.codes.specs.Code.{scan}
 use Rattle.codes.proofs.Sizes.{scan-length}
 use Rattle.machine.specs.declared.Regs.{Regs}
 use Rattle.machine.specs.Step.{stands}
-use Rattle.machine.specs.Run.{runAt}
+use Rattle.machine.specs.as_coded.Run.{runAt}
 use Rattle.pdata.specs.declared.Entry.{Entry}
-use Rattle.packed_codes.specs.declared.CodesOf.{CodesOf}
-use Rattle.packed.specs.Packed.{fields, allowed}
-use Rattle.packed_codes.specs.PackedCodes.{firstList, secondList, written, writeCodes}
 use Rattle.pdata.specs.Pdata.{find}
-use Rattle.xdata.specs.Xdata.{fitXdata, scopeCount, codesOffset, headAt}
-use Rattle.record.specs.Record.{lastScope, fullOf, fullShape, packedShape, shapeOf}
-use Rattle.xdata.specs.Scopes.{scopesAt}
-use Rattle.xdata.proofs.Heads.{head-small}
+use Rattle.xdata.specs.Xdata.{fitXdata}
+use Rattle.record.specs.Record.{shapeOf}
 use Rattle.frame.specs.Frame.{Inputs, Caller, fitStack, returned, leafOf, uncovered, within, byRecord, afterFind, frameOf}
 use Rattle.frame.specs.as_coded.FromPlace.{finish, placedFrom}
 use Rattle.frame.proofs.Within.{spotIn, within-placed}
-
-same : {A : Type 0} (a b : A) → ok a ≡ ok b → a ≡ b
-same a b h = cc
-
--- a record has few code bytes
-few-full : (x : Lent) (a : ℕ) (s : Shape) → fullShape x a ≡ ok s → length (s .codes) ≤ 1020
-unfolding fullShape
-few-full x a s q =
-    let u = bind-ok (headAt x a) (λ h. scopesAt x (a + h .bytes) (scopeCount h) >>= λ l. ok (fullOf x a h l)) s q in
-    let h = u .0 in
-    let v = bind-ok (scopesAt x (a + h .bytes) (scopeCount h)) (λ l. ok (fullOf x a h l)) s (u .2) in
-    let e : length (fullOf x a h (v .0) .codes) ≡ length (s .codes) = ap (λ y. length (y .codes)) (same (fullOf x a h (v .0)) s (v .2)) in
-    omega (arith, e, length-take (codeWordBytes (h .codewords) .0) (drop (a + codesOffset h - x .base) (x .bytes)), head-small x a h (u .1) .codewords)
-
-few-written : (w : ℕ) (c : CodesOf) → writeCodes w ≡ ok c → length (c .bytes) ≤ 1020
-unfolding writeCodes
-few-written w c q =
-    let v = need-ok (allowed (fields w)) Reserved (ok (written (fields w))) c q in
-    let e : length (written (fields w) .bytes) ≡ length (c .bytes) = ap (λ y. length (y .bytes)) (same (written (fields w)) c (v .1)) in
-    omega (arith, e, length-take 16 (firstList (fields w) ++ secondList (fields w) ++ replicate 16 0))
-
-packedBy : ℕ → CodesOf → Res Shape
-packedBy w c =
-    ok (record { span = halfwordBytes (fields w .length); codes = c .bytes; fragment = eqb (fields w .flag) 2; scopes = if eqb (fields w .ret) 3 then [] else lastScope (c .first) ∷ []; handler = 0 })
-
-few-packed : (w : ℕ) (s : Shape) → packedShape w ≡ ok s → length (s .codes) ≤ 1020
-unfolding packedShape packedBy
-few-packed w s q =
-    let u = bind-ok (writeCodes w) (packedBy w) s q in
-    let e : length (u .0 .bytes) ≡ length (s .codes) = ap (λ y. length (y .codes)) (same _ s (u .2)) in
-    omega (arith, e, few-written w (u .0) (u .1))
-
-few-codes : (x : Lent) (e : Entry) (s : Shape) → shapeOf x e ≡ ok s → length (s .codes) ≤ 1020
-few-codes x e s q = go (eqb (bits 0 2 (e .word)) 0) q
-  where
-    go : (b : Bool) → (if b then fullShape x (e .word) else packedShape (e .word)) ≡ ok s → length (s .codes) ≤ 1020
-    go true h = few-full x (e .word) s h
-    go false h = few-packed (e .word) s h
 
 -- what a frame keeps
 record Kept (g : Regs) (c : Caller) : Type 0 where
@@ -83,7 +40,7 @@ record Kept (g : Regs) (c : Caller) : Type 0 where
 
 kept-uncovered : (first : Bool) (g : Regs) (c : Caller) → uncovered first g ≡ ok c → Kept g c
 kept-uncovered true g c q =
-    let e : leafOf g ≡ c = same (leafOf g) c q in
+    let e : leafOf g ≡ c = ok-same (leafOf g) c q in
     record { sp = omega (arith, ap (λ y. y .regs .sp) e); codes = omega (arith, ap (λ y. y .codes) e) }
 kept-uncovered false g c q = absurd (let z : _≡_ {A = ℕ} 0 1 = cc in omega arith)
 
@@ -94,7 +51,7 @@ kept-from k s hd g p i Given c n q =
     let u = bind-ok (runAt k s i g) (finish hd g p (length (scan s i .list))) c q in
     let d : Caller = record { regs = returned (u .0); place = p; handler = hd; codes = length (scan s i .list) } in
     let w = need-ok (leb (g .sp) (u .0 .sp)) SpFell (ok d) c (u .2) in
-    let e : d ≡ c = same d c (w .1) in
+    let e : d ≡ c = ok-same d c (w .1) in
     record { sp = omega (arith, leb-true (g .sp) (u .0 .sp) (w .0), ap (λ y. y .regs .sp) e); codes = omega (arith, scan-length s i, ap (λ y. y .codes) e) }
 
 kept-within : (k : Lent) (s : Shape) (o : ℕ) (g : Regs) (c : Caller) → length (s .codes) ≤ 1020 → within k s o g ≡ ok c → Kept g c
@@ -106,7 +63,7 @@ kept-record : (first : Bool) (t : Inputs) (e : Entry) (g : Regs) (c : Caller) �
 unfolding byRecord
 kept-record first t e g c q =
     let u = bind-ok (shapeOf (t .xdata) e) (λ s. if ltb (even (g .pc) - t .image - e .start) (s .span) then within (t .stack) s (even (g .pc) - t .image - e .start) g else uncovered first g) c q in
-    go (u .0) (ltb (even (g .pc) - t .image - e .start) (u .0 .span)) (few-codes (t .xdata) e (u .0) (u .1)) (u .2)
+    go (u .0) (ltb (even (g .pc) - t .image - e .start) (u .0 .span)) (shape-few (t .xdata) (e .word) (u .0) (u .1)) (u .2)
   where
     go :
         (s : Shape) (b : Bool) → length (s .codes) ≤ 1020

@@ -23,7 +23,7 @@ use Rattle.codes.specs.declared.Code.{Code}
 use Rattle.codes.specs.Code.{size, scan, codesAt}
 use Rattle.machine.specs.declared.Regs.{Regs}
 use Rattle.machine.specs.Step.{step}
-use Rattle.machine.specs.Run.{runAt}
+use Rattle.machine.specs.as_coded.Run.{runAt}
 use Rattle.frame.specs.Frame.{Caller, returned, within}
 use Rattle.place.specs.as_coded.Look.{spotOf}
 use Rattle.frame.specs.as_coded.FromPlace.{finish, ranFrom, placedFrom, fromPlaced}

@@ -7,8 +7,8 @@ use Rattle.words.specs.declared.Refusal.{Refusal}
 use Rattle.words.specs.declared.Verdict.{Verdict}
 use Rattle.words.specs.declared.Verdict.the-variants.{Given, Refused}
 use Rattle.words.specs.Answer.{Res, ok, refuse, _>>=_}
-use Rattle.machine.specs.Run.{ran}
-use Rattle.machine.specs.Answers.{loaded, loadedTwo, came, Counted}
+use Rattle.machine.specs.as_coded.Run.{ran}
+use Rattle.machine.specs.as_coded.Answers.{loaded, loadedTwo, came, Counted}
 use Rattle.machine.specs.declared.Loaded.the-variants as Loads
 use Rattle.machine.specs.declared.LoadedTwo.the-variants as Two
 use Rattle.machine.specs.declared.Regs.{Regs}

@@ -16,7 +16,7 @@ use Rattle.words.specs.declared.Refusal.{Refusal}
 use Rattle.words.specs.Answer.{Res, ok, refuse, _>>=_, if_then_else_}
 use Rattle.codes.specs.declared.Undo.the-variants.{LoadLr}
 use Rattle.machine.specs.Step.{load, popReg, popD, pop, vpop, effect}
-use Rattle.machine.specs.Answers.{loadedTwo, regs}
+use Rattle.machine.specs.as_coded.Answers.{loadedTwo, regs}
 use Rattle.machine.specs.declared.LoadedTwo.the-variants as Two
 use Rattle.machine.specs.declared.Regs.{Regs}
 use Rattle.machine.proofs.Answers.{two-refused}

@@ -22,7 +22,7 @@ use Rattle.codes.specs.declared.Taken.{Taken}
 use Rattle.codes.specs.declared.Taken.the-variants.{One, Last, Bad}
 use Rattle.codes.proofs.Scanning.{scan-one, scan-last, scan-bad}
 use Rattle.machine.specs.Step.{step}
-use Rattle.machine.specs.Run.{runAt, ran}
+use Rattle.machine.specs.as_coded.Run.{runAt, ran}
 use Rattle.machine.specs.declared.Regs.{Regs}
 
 -- the codes of a scan, and then its end

@@ -1,4 +1,3 @@
 pub mod Registers
 pub mod Step
-pub mod Run
-pub mod Answers
+pub mod as_coded

@@ -16,8 +16,8 @@ ghost use Rattle.words.specs.Lent.{lent};
 ghost use Rattle.words.specs.Answer.{refuse, if_then_else_};
 ghost use Rattle.codes.specs.Code.{scan};
 ghost use Rattle.machine.specs.Step.{stands as standsOf, load as loadOf, pop as popOf, vpop as vpopOf, effect as effectOf, step as stepOf};
-ghost use Rattle.machine.specs.Answers.{loaded, loadedTwo, regs, came, Counted};
-ghost use Rattle.machine.specs.Run.{runAt, ran};
+ghost use Rattle.machine.specs.as_coded.Answers.{loaded, loadedTwo, regs, came, Counted};
+ghost use Rattle.machine.specs.as_coded.Run.{runAt, ran};
 
 // r0-r12, SP, LR, pc and d0-d31.
 pub struct Regs {

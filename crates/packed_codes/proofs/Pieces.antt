@@ -13,7 +13,7 @@ use Rattle.words.specs.Answer.{if_then_else_}
 use Rattle.packed.specs.Packed.{Fit, amount, folded, PF, EF, integers}
 use Rattle.packed_codes.specs.PackedCodes.{when, upCode, vpopCode, dForm, popSized, popCode, low, firstList, leave, secondList}
 use Rattle.packed.specs.declared.Packed.{Packed}
-use Rattle.packed_codes.specs.Out.{putOf, puts, topOf}
+use Rattle.packed_codes.specs.as_coded.Out.{putOf, puts, topOf}
 use Rattle.packed_codes.specs.declared.Out.{Out}
 use Rattle.packed_codes.specs.declared.Top.the-variants.{Register, Other}
 use Rattle.packed_codes.proofs.Buffer.{puts-one, puts-three, puts-append}

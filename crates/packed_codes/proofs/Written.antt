@@ -15,7 +15,7 @@ use Rattle.packed.specs.Packed.{fields, allowed}
 use Rattle.packed_codes.specs.PackedCodes.{firstList, secondList, written, writeCodes, codesAnswer}
 use Rattle.packed.specs.declared.Packed.{Packed}
 use Rattle.packed_codes.specs.declared.CodesOf.{CodesOf}
-use Rattle.packed_codes.specs.Out.{blank, puts}
+use Rattle.packed_codes.specs.as_coded.Out.{blank, puts}
 use Rattle.packed_codes.specs.declared.Out.{Out}
 use Rattle.packed_codes.proofs.Buffer.{holding, puts-holding, holding-bytes}
 use Rattle.packed_codes.proofs.Lengths.{lists-fit}

@@ -1,3 +1,3 @@
 pub mod PackedCodes
-pub mod Out
 pub mod Lists
+pub mod as_coded

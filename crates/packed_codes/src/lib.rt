@@ -18,7 +18,7 @@ ghost use Prim.Native.Nat.{_+_, _<_, _-_, _*_, _/_, _%_};
 ghost use lib.Dec.{eqb};
 ghost use Rattle.packed.specs.Packed.{Fit, fields as fieldsOf, amount as amountOf};
 ghost use Rattle.packed_codes.specs.PackedCodes.{when, upCode, vpopCode, upTo, popSized, popCode, low, firstList, leave as leaveOf, secondList, written, writeCodes, codesAnswer};
-ghost use Rattle.packed_codes.specs.Out.{putOf, puts, topOf};
+ghost use Rattle.packed_codes.specs.as_coded.Out.{putOf, puts, topOf};
 
 // A packed record's code bytes, first list, second list, the rest 0, and both lengths; all 0 where it is refused.
 pub struct CodesOf {

@@ -1,7 +1,7 @@
 -- The text that a program makes of a report.
 use Prim.Native.Nat.{ℕ}
 use mathlib.Core.List.{List}
-use Rattle.report.specs.Listing.{listing}
+use Rattle.listing.specs.Listing.{listing}
 use Rattle.caller_text.specs.CallerText.{callerText}
 use Rattle.programs.specs.declared.Text.{Text}
 use Rattle.programs.specs.declared.Text.the-variants.{Listing, Caller}

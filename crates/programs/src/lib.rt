@@ -9,7 +9,7 @@ use caller_text::show_caller;
 use libc::STDERR_FILENO;
 use libc::STDIN_FILENO;
 use libc::STDOUT_FILENO;
-use report::list_report;
+use listing::list_report;
 use streams::Item;
 
 // Which text: the listing of the walk, or the caller of the one frame.

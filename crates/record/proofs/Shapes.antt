@@ -2,7 +2,8 @@
 -- .xdata; the code bytes lie inside it.
 -- Assumes nothing.
 use Prim.Native.Nat.{ℕ, zero, suc, _+_, _-_, _*_, _≤_, _<_}
-use mathlib.Core.Path.{_≡_, refl, sym, ap, ap₂, _∙_}
+use Rattle.words.proofs.Answers.{ok-same}
+use mathlib.Core.Path.{subst, _≡_, refl, sym, ap, ap₂, _∙_}
 use mathlib.Core.Bool.{Bool, true, false, _&&_}
 use mathlib.Core.List.{List, _∷_, [], _++_}
 use lib.ListN.{length, take, drop, replicate, length-take}
@@ -284,3 +285,21 @@ packed-few w f is = go (allowed (fields w)) is
     go : (b : Bool) → f ≡ packedAnswer ((need b Reserved >> ok (written (fields w))) >>= λ c. ok (packedBy w c)) → length (f .bytes) ≤ 1020
     go true q = rw q (omega (arith, length-take 16 (firstList (fields w) ++ secondList (fields w) ++ replicate 16 0)))
     go false q = rw q (omega arith)
+
+-- and so has every record
+few-by : (v : Verdict) (sh s : Shape) → length (sh .codes) ≤ 1020 → byVerdict v sh ≡ ok s → length (s .codes) ≤ 1020
+few-by Given sh s n q = subst (λ y. length (y .codes) ≤ 1020) (ok-same sh s q) n
+few-by (Refused r) sh s n q = absurd (let z : _≡_ {A = ℕ} 0 1 = cc in omega arith)
+
+pub shape-few : (x : Lent) (w : ℕ) (s : Shape) → shapeAt x w ≡ ok s → length (s .codes) ≤ 1020
+shape-few x w s q = go (eqb (bits 0 2 w) 0) q
+  where
+    go : (t : Bool) → (if t then fullShape x w else packedShape w) ≡ ok s → length (s .codes) ≤ 1020
+    go true h =
+        let f = fullAnswer (fullPlan x w) in
+        let part = take (f .codes .len) (drop (f .codes .start) (x .bytes)) in
+        let n : length part ≤ 1020 = omega (arith, full-few (x .base) (x .bytes) w f refl, length-take (f .codes .len) (drop (f .codes .start) (x .bytes))) in
+        few-by (f .verdict) (shapeBy (f .plan) part (x .bytes)) s n (sym (full-shape (x .base) (x .bytes) w f refl) ∙ h)
+    go false h =
+        let f = packedAnswer (packedPlan w) in
+        few-by (f .verdict) (shapeBy (f .plan) (f .bytes) []) s (packed-few w f refl) (sym (packed-shape w [] f refl) ∙ h)

@@ -14,12 +14,8 @@ use Rattle.words.specs.declared.Refusal.{Refusal}
 use Rattle.words.specs.declared.Verdict.the-variants.{Given, Refused}
 use Rattle.words.specs.Answer.{Res, ok, refuse, _>>_, need, either}
 use Rattle.report.specs.declared.Parts.{Parts}
-use Rattle.report.specs.Report.{Report, report, same, mark, headBytes, pdataBytes, xdataBytes, stackSize, inputsOf, regsOf}
-use Rattle.report.specs.Parts.{parts, partsOf, noParts, inputsIn, reportFrom, reportIn, Lie}
-
--- the bytes that a report's words say it has
-abbrev pub wholeOf : List ℕ → ℕ
-wholeOf s = headBytes + pdataBytes s + xdataBytes s + stackSize s
+use Rattle.report.specs.Report.{Report, report, same, mark, headBytes, pdataBytes, xdataBytes, stackSize, xdataAt, stackAt, endAt, inputsOf, regsOf}
+use Rattle.report.specs.as_coded.Parts.{parts, partsOf, noParts, inputsIn, reportFrom, reportIn, Lie}
 
 -- whatever was asked before, one need that fails is 14
 need-14 : (b : Bool) → _>>_ {B = Report} (need b UnfitReport) (refuse UnfitReport) ≡ refuse UnfitReport
@@ -38,13 +34,13 @@ pub not-marked : (s : List ℕ) → same (take 8 s) mark ≡ false → report s 
 unfolding report
 not-marked s e = rw e (need-14 (leb headBytes (length s) && leb (length s) 65536))
 
-pub not-whole : (s : List ℕ) → (length s ≡ wholeOf s → ⊥) → report s ≡ refuse UnfitReport
+pub not-whole : (s : List ℕ) → (length s ≡ endAt s → ⊥) → report s ≡ refuse UnfitReport
 unfolding report
-not-whole s h = rw (ne-eqb (length s) (wholeOf s) h, need-14 (same (take 8 s) mark)) (need-14 (leb headBytes (length s) && leb (length s) 65536))
+not-whole s h = rw (ne-eqb (length s) (endAt s) h, need-14 (same (take 8 s) mark)) (need-14 (leb headBytes (length s) && leb (length s) 65536))
 
-pub fit : (s : List ℕ) → headBytes ≤ length s → length s ≤ 65536 → same (take 8 s) mark ≡ true → length s ≡ wholeOf s → report s ≡ ok (record { inputs = inputsOf s; regs = regsOf s })
+pub fit : (s : List ℕ) → headBytes ≤ length s → length s ≤ 65536 → same (take 8 s) mark ≡ true → length s ≡ endAt s → report s ≡ ok (record { inputs = inputsOf s; regs = regsOf s })
 unfolding report
-fit s a b m e = rw (le-leb headBytes (length s) a, le-leb (length s) 65536 b, m, eq-eqb (length s) (wholeOf s) e) refl
+fit s a b m e = rw (le-leb headBytes (length s) a, le-leb (length s) 65536 b, m, eq-eqb (length s) (endAt s) e) refl
 
 -- what reading answers where the report is unfit, and where it is fit
 pub refused-is : (s : List ℕ) {p : Parts} → report s ≡ refuse UnfitReport → p ≡ noParts UnfitReport → (p ≡ parts s) × Lie s p
@@ -52,7 +48,7 @@ unfolding parts
 refused-is s {p} e q =
     (rw e q, subst (λ x. Lie s x) (sym q) (record { first = omega arith; second = omega arith; third = omega arith; whole = omega arith }))
 
-pub given-is : (s : List ℕ) {p : Parts} {r : Report} → report s ≡ ok r → length s ≡ wholeOf s → p ≡ partsOf s → (p ≡ parts s) × Lie s p
+pub given-is : (s : List ℕ) {p : Parts} {r : Report} → report s ≡ ok r → length s ≡ endAt s → p ≡ partsOf s → (p ≡ parts s) × Lie s p
 unfolding parts
 given-is s {p} {r} e l q =
     (rw e q, subst (λ x. Lie s x) (sym q) (record { first = omega arith; second = omega arith; third = omega arith; whole = omega arith }))
@@ -63,13 +59,11 @@ partsBy s r = either r noParts (λ p. partsOf s)
 
 inputs-in : (s : List ℕ) → inputsIn s (partsOf s) ≡ inputsOf s
 inputs-in s =
-    let x = headBytes + pdataBytes s in
-    let k = x + xdataBytes s in
-    rw (add-sub-cancel-left headBytes (pdataBytes s), add-sub-cancel-left x (xdataBytes s), add-sub-cancel-left k (stackSize s)) refl
+    rw (add-sub-cancel-left headBytes (pdataBytes s), add-sub-cancel-left (xdataAt s) (xdataBytes s), add-sub-cancel-left (stackAt s) (stackSize s)) refl
 
 pub parts-report : (s : List ℕ) → reportIn s (parts s) ≡ report s
 unfolding parts report
-parts-report s = go (leb headBytes (length s) && leb (length s) 65536) (same (take 8 s) mark) (eqb (length s) (wholeOf s))
+parts-report s = go (leb headBytes (length s) && leb (length s) 65536) (same (take 8 s) mark) (eqb (length s) (endAt s))
   where
     asked : (a b c : Bool) → Res Report
     asked a b c = need a UnfitReport >> (need b UnfitReport >> (need c UnfitReport >> ok (record { inputs = inputsOf s; regs = regsOf s })))

@@ -9,7 +9,7 @@ use Rattle.words.specs.Little.{word32, word64}
 use Rattle.words.specs.declared.Refusal.the-variants.{UnfitReport}
 use Rattle.words.specs.Answer.{Res, ok, _>>=_, _>>_, need}
 use Rattle.machine.specs.declared.Regs.{Regs}
-use Rattle.frame.specs.Frame.{Inputs}
+use Rattle.frame.specs.Frame.{Inputs, inputs}
 
 pub record Report : Type 0 where
   pub inputs : Inputs
@@ -50,12 +50,30 @@ xdataBytes s = word32 s 20
 abbrev pub stackSize : List ℕ → ℕ
 stackSize s = word32 s 28
 
+-- where the .xdata, the stack and the end stand
+abbrev pub xdataAt : List ℕ → ℕ
+xdataAt s = headBytes + pdataBytes s
+
+abbrev pub stackAt : List ℕ → ℕ
+stackAt s = xdataAt s + xdataBytes s
+
+abbrev pub endAt : List ℕ → ℕ
+endAt s = stackAt s + stackSize s
+
+-- the numbers of a report
+abbrev pub imageOf : List ℕ → ℕ
+imageOf s = word32 s 8
+
+abbrev pub rvaOf : List ℕ → ℕ
+rvaOf s = word32 s 16
+
+abbrev pub baseOf : List ℕ → ℕ
+baseOf s = word32 s 24
+
 -- the parts of a report whose lengths fit
 abbrev pub inputsOf : List ℕ → Inputs
 inputsOf s =
-    let x : ℕ = headBytes + pdataBytes s in
-    let k : ℕ = x + xdataBytes s in
-    record { image = word32 s 8; pdata = part s headBytes (pdataBytes s); xdata = record { base = word32 s 16; bytes = part s x (xdataBytes s) }; stack = record { base = word32 s 24; bytes = part s k (stackSize s) } }
+    inputs (imageOf s) (part s headBytes (pdataBytes s)) (rvaOf s) (part s (xdataAt s) (xdataBytes s)) (baseOf s) (part s (stackAt s) (stackSize s))
 
 abbrev pub regsOf : List ℕ → Regs
 regsOf s = record { r = words32 s 32 13; sp = word32 s 84; lr = word32 s 88; pc = word32 s 92; d = words64 s 96 32 }
@@ -65,5 +83,5 @@ unfoldable pub report : List ℕ → Res Report
 report s = do
   need (leb headBytes (length s) && leb (length s) 65536) UnfitReport
   need (same (take 8 s) mark) UnfitReport
-  need (eqb (length s) (headBytes + pdataBytes s + xdataBytes s + stackSize s)) UnfitReport
+  need (eqb (length s) (endAt s)) UnfitReport
   ok (record { inputs = inputsOf s; regs = regsOf s })

@@ -1,26 +1,18 @@
-// The report file, and what the programs print of one, as bytes. It neither reads nor writes.
-mod listing;
-
-pub use listing::list_report;
-pub use listing::put_place;
-pub use listing::put_refusal;
-pub use listing::put_refused;
+// The report file as bytes: its numbers, its registers, and where its parts lie. It neither reads nor writes.
 ghost use mathlib.Core.Path.{_≡_};
 ghost use Prim.Native.Nat.{_≤_};
 ghost use lib.ListN.{length, take};
 ghost use Rattle.words.specs.declared.Refusal.the-variants.{UnfitReport};
 ghost use Rattle.report.specs.Report.{same, mark, words32, words64, regsOf};
-ghost use Rattle.report.specs.Parts.{parts, noParts, Lie};
+ghost use Rattle.report.specs.as_coded.Parts.{parts, noParts, Lie};
 use machine::Regs;
 use words::Refusal;
 use words::Verdict;
 use words::word32;
 use words::word64;
 
-// The largest report, and the largest listing.
+// The largest report.
 pub const REPORT_BYTES: usize = 65536;
-
-pub const LISTING_BYTES: usize = 8192;
 
 // The bytes before the .pdata: the mark, 22 words, 32 double words.
 const HEAD_BYTES: usize = 352;

@@ -25,3 +25,6 @@ pub bind-same :
     {A B : Type 0} (x : Res A) (f g : A → Res B) → ((a : A) → f a ≡ g a) → (x >>= f) ≡ (x >>= g)
 bind-same (ok a) f g h = h a
 bind-same (refuse r) f g h = refl
+
+pub ok-same : {A : Type 0} (a b : A) → ok a ≡ ok b → a ≡ b
+ok-same a b h = cc

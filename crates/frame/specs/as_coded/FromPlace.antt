@@ -15,7 +15,7 @@ use Rattle.words.specs.Answer.{Res, ok, refuse, _>>=_, _>>_, need, if_then_else
 use Rattle.unwinding.specs.Shape.{Shape}
 use Rattle.codes.specs.Code.{scan}
 use Rattle.machine.specs.declared.Regs.{Regs}
-use Rattle.machine.specs.Run.{runAt}
+use Rattle.machine.specs.as_coded.Run.{runAt}
 use Rattle.record.specs.Record.{fullShape, packedShape}
 use Rattle.frame.specs.Frame.{Caller, returned, uncovered, within}
 use Rattle.place.specs.declared.Placed.{Placed}

@@ -12,7 +12,7 @@ use Rattle.words.specs.Lent.{lent}
 use Rattle.codes.specs.Code.{takeAt}
 use Rattle.codes.specs.declared.Taken.the-variants.{One}
 use Rattle.codes.proofs.Scanning.{take-next}
-use Rattle.machine.specs.Answers.{regs}
+use Rattle.machine.specs.as_coded.Answers.{regs}
 use Rattle.machine.proofs.Answers.{came-given, came-refused, clash}
 use Rattle.machine.proofs.Running.{first-given, first-refused, run-last, run-bad, count-first, count-last, codes-short}
 use Rattle.machine.proofs.run_on.Reads as run-on

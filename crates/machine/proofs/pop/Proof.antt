@@ -10,7 +10,7 @@ use borrow.Author.Needs.{needs}
 use Rattle.words.specs.Lent.{Lent, lent}
 use Rattle.words.specs.Answer.{ok}
 use Rattle.machine.specs.Step.{load, pop}
-use Rattle.machine.specs.Answers.{regs}
+use Rattle.machine.specs.as_coded.Answers.{regs}
 use Rattle.machine.proofs.Answers.{loaded-word, loaded-refused}
 use Rattle.machine.proofs.Loading.{load-inside}
 use Rattle.machine.proofs.Popping.{goes-on, stops, listed, listed-word, listed-not, listed-refused, pop-none, pop-next}

@@ -1,7 +1,7 @@
 -- `run` meets its contract: what the codes came to in place is given back, or the given registers where they were refused.
 -- Assumes nothing.
 use mathlib.Core.Path.{sym, ap, _∙_}
-use Rattle.machine.specs.Run.{ran}
+use Rattle.machine.specs.as_coded.Run.{ran}
 use Rattle.machine.proofs.Answers.{came-refused, came-ran}
 use borrow.Author.Needs.{needs}
 use Rattle.machine.proofs.run.Statement.{statement}

@@ -6,7 +6,7 @@ use borrow.Author.Needs.{needs}
 use Rattle.words.specs.Lent.{Lent, lent}
 use Rattle.words.specs.Answer.{ok}
 use Rattle.machine.specs.Step.{stands, effect, step}
-use Rattle.machine.specs.Answers.{regs}
+use Rattle.machine.specs.as_coded.Answers.{regs}
 use Rattle.machine.specs.declared.Regs.{Regs}
 use Rattle.machine.proofs.Answers.{came-given, came-refused}
 use Rattle.machine.proofs.Standing.{stands-true}

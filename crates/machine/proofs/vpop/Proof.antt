@@ -9,7 +9,7 @@ use borrow.Author.Needs.{needs}
 use Rattle.words.specs.Lent.{lent}
 use Rattle.words.specs.Answer.{ok}
 use Rattle.machine.specs.Step.{load, popD, vpop}
-use Rattle.machine.specs.Answers.{regs}
+use Rattle.machine.specs.as_coded.Answers.{regs}
 use Rattle.machine.proofs.Answers.{two-words}
 use Rattle.machine.proofs.Loading.{load-inside}
 use Rattle.machine.proofs.Popping.{goes-on, stops, vpop-none, vpop-next, d-words, d-refused}

@@ -4,7 +4,7 @@ use mathlib.Core.Path.{refl, sym, ap, _∙_}
 use borrow.Author.Needs.{needs}
 use Rattle.packed.specs.Packed.{amount}
 use Rattle.packed_codes.specs.PackedCodes.{upCode}
-use Rattle.packed_codes.specs.Out.{puts}
+use Rattle.packed_codes.specs.as_coded.Out.{puts}
 use Rattle.packed_codes.proofs.Pieces.{amount-small}
 use Rattle.packed_codes.proofs.Buffer.{puts-when, puts-unless}
 use Rattle.packed_codes.proofs.adjust.Statement.{statement}

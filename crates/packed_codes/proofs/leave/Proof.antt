@@ -1,7 +1,7 @@
 -- Each return is one case of the definition, written piece by piece. Assumes nothing.
 use mathlib.Core.Path.{sym, ap, _∙_}
 use borrow.Author.Needs.{needs}
-use Rattle.packed_codes.specs.Out.{puts}
+use Rattle.packed_codes.specs.as_coded.Out.{puts}
 use Rattle.packed_codes.proofs.Pieces.{leave-load, leave-return, leave-jump, last-written}
 use Rattle.packed_codes.proofs.leave.Statement.{statement}
 use Rattle.packed_codes.proofs.leave.Tie as tie

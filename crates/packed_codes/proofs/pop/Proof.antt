@@ -2,7 +2,7 @@
 use mathlib.Core.Path.{sym, ap, _∙_}
 use borrow.Author.Needs.{needs}
 use Rattle.packed_codes.specs.PackedCodes.{popSized}
-use Rattle.packed_codes.specs.Out.{puts}
+use Rattle.packed_codes.specs.as_coded.Out.{puts}
 use Rattle.packed_codes.proofs.Buffer.{puts-none}
 use Rattle.packed_codes.proofs.Pieces.{pop-empty, pop-some}
 use Rattle.packed_codes.proofs.pop.Statement.{statement}

@@ -4,7 +4,7 @@ use mathlib.Core.Path.{sym, ap, _∙_}
 use mathlib.Core.List.{[], _∷_}
 use borrow.Author.Needs.{needs}
 use Rattle.packed_codes.specs.PackedCodes.{upTo}
-use Rattle.packed_codes.specs.Out.{putOf, puts}
+use Rattle.packed_codes.specs.as_coded.Out.{putOf, puts}
 use Rattle.packed_codes.proofs.Buffer.{puts-one, puts-two}
 use Rattle.packed_codes.proofs.Pieces.{d-register, d-other}
 use Rattle.packed_codes.proofs.pop32.Statement.{statement}

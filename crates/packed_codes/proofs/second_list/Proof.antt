@@ -3,7 +3,7 @@ use mathlib.Core.Path.{sym, ap, _∙_}
 use borrow.Author.Needs.{needs}
 use Rattle.packed.specs.Packed.{fields}
 use Rattle.packed.proofs.Words.{fields-fit}
-use Rattle.packed_codes.specs.Out.{puts}
+use Rattle.packed_codes.specs.as_coded.Out.{puts}
 use Rattle.packed_codes.proofs.Pieces.{second-none, second-written}
 use Rattle.packed_codes.proofs.Buffer.{puts-none}
 use Rattle.packed_codes.proofs.second_list.Statement.{statement}

@@ -2,7 +2,7 @@
 use Prim.Native.Nat.{_+_, _/_, _%_}
 use mathlib.Core.Path.{sym, ap, _∙_}
 use borrow.Author.Needs.{needs}
-use Rattle.packed_codes.specs.Out.{putOf, puts}
+use Rattle.packed_codes.specs.as_coded.Out.{putOf, puts}
 use Rattle.packed_codes.proofs.Pieces.{up-none, up-low, up-high}
 use Rattle.packed_codes.proofs.Buffer.{puts-none, puts-one, puts-two}
 use Rattle.packed_codes.proofs.up.Statement.{statement}

@@ -2,7 +2,7 @@
 use Prim.Native.Nat.{_+_}
 use mathlib.Core.Path.{sym, ap, _∙_}
 use borrow.Author.Needs.{needs}
-use Rattle.packed_codes.specs.Out.{puts}
+use Rattle.packed_codes.specs.as_coded.Out.{puts}
 use Rattle.packed_codes.proofs.Pieces.{vpop-r0, vpop-7, vpop-some}
 use Rattle.packed_codes.proofs.Buffer.{puts-none, puts-one}
 use Rattle.packed_codes.proofs.vpop.Statement.{statement}

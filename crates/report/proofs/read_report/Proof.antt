@@ -6,8 +6,8 @@ use lib.ListN.{length, take}
 use native.Mathlib.Omega.{arith}
 use borrow.Author.Tests.{not-true, not-false}
 use borrow.Author.Needs.{needs}
-use Rattle.report.specs.Report.{same, mark}
-use Rattle.report.proofs.Reading.{wholeOf, too-short, too-long, not-marked, not-whole, fit, refused-is, given-is}
+use Rattle.report.specs.Report.{same, mark, endAt}
+use Rattle.report.proofs.Reading.{too-short, too-long, not-marked, not-whole, fit, refused-is, given-is}
 use Rattle.report.proofs.read_report.Statement.{statement}
 use Rattle.report.proofs.read_report.Tie as tie
 
@@ -83,7 +83,7 @@ word32-requires-6 c κs = search needs
 returns-5 : tie.Need-returns-5
 returns-5 c =
     let m : same (take 8 (c .before .before .before .before .before .before .before .before .before .before .before .before .before .args .file .now)) mark ≡ true = sym (c .before .before .before .before .before .before .before .before .before .marked .ensures) ∙ not-false _ (c .before .before .before .before .before .before .before .before .if3 .left) in
-    let l : length (c .before .before .before .before .before .before .before .before .before .before .before .before .before .args .file .now) ≡ wholeOf (c .before .before .before .before .before .before .before .before .before .before .before .before .before .args .file .now) = omega (arith, c .before .before .before .before .if4 .left, c .before .before .before .before .before .before .before .word32 .ensures, c .before .before .before .before .before .before .word322 .ensures, c .before .before .before .before .before .word323 .ensures) in
+    let l : length (c .before .before .before .before .before .before .before .before .before .before .before .before .before .args .file .now) ≡ endAt (c .before .before .before .before .before .before .before .before .before .before .before .before .before .args .file .now) = omega (arith, c .before .before .before .before .if4 .left, c .before .before .before .before .before .before .before .word32 .ensures, c .before .before .before .before .before .before .word322 .ensures, c .before .before .before .before .before .word323 .ensures) in
     given-is (c .before .before .before .before .before .before .before .before .before .before .before .before .before .args .file .now) (fit (c .before .before .before .before .before .before .before .before .before .before .before .before .before .args .file .now) (omega arith) (omega arith) m l) l (simp (c .before .before .before .before .before .before .before .word32 .ensures, c .before .before .before .before .before .before .word322 .ensures, c .before .before .before .before .before .word323 .ensures, c .before .before .word324 .ensures, c .before .word325 .ensures, c .word326 .ensures, c .before .before .before .registers .ensures))
 
 pub read-report-spec : {M : Type 1} → statement M

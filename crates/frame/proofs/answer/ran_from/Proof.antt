@@ -4,7 +4,7 @@ use mathlib.Core.Path.{_≡_, sym, ap, _∙_}
 use lib.ListN.{length}
 use Rattle.words.specs.Lent.{lent}
 use Rattle.codes.specs.Code.{scan}
-use Rattle.machine.specs.Run.{runAt}
+use Rattle.machine.specs.as_coded.Run.{runAt}
 use Rattle.machine.proofs.Answers.{ran-given, ran-refused}
 use Rattle.frame.specs.Frame.{unwound}
 use Rattle.frame.proofs.Within.{ran-stopped, ran-fell, ran-rose}

@@ -1,0 +1,26 @@
+-- Sixteen code bytes, written from the first on. That they come to `written` is a law (`codes-written` of proofs/Written.antt).
+use Prim.Native.Nat.{ℕ, _+_}
+use mathlib.Core.List.{List, _∷_, []}
+use mathlib.Core.Option.{Option, none, some}
+use lib.ListN.{set, replicate}
+use lib.Dec.{ltb}
+use Rattle.words.specs.Answer.{if_then_else_}
+use Rattle.packed_codes.specs.declared.Out.{Out}
+use Rattle.packed_codes.specs.declared.Top.{Top}
+use Rattle.packed_codes.specs.declared.Top.the-variants.{Register, Other}
+
+abbrev pub blank : Out
+blank = record { bytes = replicate 16 0; len = 0 }
+
+-- one more byte, while there is room
+unfoldable pub putOf : Out → ℕ → Out
+putOf o b = if ltb (o .len) 16 then record { bytes = set (o .bytes) (o .len) b; len = o .len + 1 } else o
+
+unfoldable pub puts : Out → List ℕ → Out
+puts o [] = o
+puts o (b ∷ l) = puts (putOf o b) l
+
+-- the X of a list r4-rX, where it is one
+abbrev pub topOf : Option ℕ → Top
+topOf none = Other
+topOf (some x) = Register x
