@@ -5,19 +5,17 @@ use Prim.Native.Nat.{ℕ, _+_, _-_, _*_, _/_, _≤_, _<_}
 use mathlib.Core.Path.{_≡_, refl, sym, ap, subst, _∙_}
 use mathlib.Core.List.{List, [], _∷_, _++_}
 use mathlib.Core.Bool.{Bool, true, false}
-use mathlib.Core.Option.{some}
 use lib.ListN.{length, take, drop, length-drop}
 use lib.Dec.{leb, lit<}
 use native.Mathlib.Omega.{arith}
 use native.Mathlib.Nat.{mul-div-cancel-left}
-use borrow.Author.Tests.{ne-eqb}
 use Rattle.words.specs.Units.{codeBytes}
 use Rattle.words.specs.declared.CodeBytes.{CodeBytes}
 use Rattle.words.specs.declared.Halfwords.{Halfwords}
 use Rattle.words.specs.declared.Refusal.{Refusal}
 use Rattle.words.specs.Answer.{Res, ok, refuse, _>>=_, if_then_else_}
-use Rattle.unwinding.specs.CodeList.{total, endOf}
-use Rattle.unwinding.proofs.Ends.{total-empty, total-step, total-append, endOf-step, endOf-whole}
+use Rattle.unwinding.specs.CodeList.{total}
+use Rattle.unwinding.proofs.Ends.{total-empty, total-step, Sized}
 use Rattle.codes.specs.Table.{rowOf}
 use Rattle.codes.specs.Code.{value, size, taken, takeFrom, takeAt, Scan, scan, codesAt}
 use Rattle.codes.specs.Reading.{halves, scanned}
@@ -64,13 +62,9 @@ module _ (s : List ℕ) (i : ℕ) where
   take-last n e = subst Small e small
 
 -- each code of a list has an instruction
-abbrev pub Sized : List Code → Type 0
-Sized [] = Unit {0}
-Sized (c ∷ cs) = (0 < size c) × Sized cs
-
-pub scan-sized : (s : List ℕ) (i : CodeBytes) → Sized (scan s i .list)
+pub scan-sized : (s : List ℕ) (i : CodeBytes) → Sized size (scan s i .list)
 scan-sized s i =
-    by-scan s (λ j x. Sized (x .list)) (λ j c next e ih. (omega (arith, take-size s j c next e .0), ih)) (λ j n e. tt) (λ j k e. tt) i
+    by-scan s (λ j x. Sized size (x .list)) (λ j c next e ih. (omega (arith, take-size s j c next e .0), ih)) (λ j n e. tt) (λ j k e. tt) i
 
 -- a code list has no more codes than bytes
 pub scan-length : (s : List ℕ) (i : CodeBytes) → length (scan s i .list) ≤ length s - i .0
@@ -136,18 +130,3 @@ codes-end s i h e q = ap (λ x. x >>= λ n. ok (record { list = scan s i .list; 
 
 pub codes-refused : (s : List ℕ) (i : CodeBytes) (r : Refusal) → scanned (scan s i) ≡ Refused r → codesAt s i ≡ refuse r
 codes-refused s i r q = ap (λ x. x >>= λ n. ok (record { list = scan s i .list; endSize = n })) (scanned-refused s i r q)
-
--- the laws of `endOf` at an instruction boundary, for a list whose codes all have an instruction
-pub boundary : (after n : ℕ) (a l : List Code) → Sized (a ++ l) → total size l + after ≡ n → endOf size after n (a ++ l) ≡ some l
-boundary after n [] l z e = endOf-whole size after n l e
-boundary after n (c ∷ a) l z e =
-    let h : total size (c ∷ (a ++ l)) + after ≡ n → ⊥ = λ q. omega (arith, total-step size c (a ++ l), total-append size a l, z .0) in
-    endOf-step size after n c (a ++ l) ∙ rw (ne-eqb _ _ h) (boundary after n a l (z .1) e)
-
-pub boundary-only :
-    (after n : ℕ) (a b k l : List Code) → Sized (a ++ k) → a ++ k ≡ b ++ l → total size k + after ≡ n → total size l + after ≡ n → k ≡ l
-boundary-only after n a b k l z e p q =
-    let x : endOf size after n (a ++ k) ≡ some k = boundary after n a k z p in
-    let y : endOf size after n (b ++ l) ≡ some l = boundary after n b l (subst Sized e z) q in
-    let w : endOf size after n (a ++ k) ≡ endOf size after n (b ++ l) = ap (endOf size after n) e in
-    cc

@@ -6,44 +6,30 @@ use mathlib.Core.Path.{_≡_, refl, ap, _∙_, subst}
 use mathlib.Core.Bool.{Bool, true, false, _&&_, not}
 use mathlib.Core.Logic.{_⊎_, inl, inr}
 use mathlib.Core.List.{List, [], _∷_, _++_, map}
-use mathlib.Core.Option.{some}
 use lib.Dec.{leb, ltb}
 use native.Mathlib.Omega.{arith}
-use borrow.Author.Tests.{lt-ltb, le-ltb, le-leb, lt-leb, ltb-true, ltb-false, leb-true, eq-eqb, ne-eqb}
-use Rattle.words.specs.declared.Place.{Place}
+use borrow.Author.Tests.{lt-ltb, le-ltb, le-leb, lt-leb, ltb-true, ltb-false, leb-true, eq-eqb}
 use Rattle.words.specs.declared.Place.the-variants.{Prologue, Body, Epilogue}
 use Rattle.words.specs.Answer.{ok, if_then_else_}
-use Rattle.unwinding.specs.CodeList.{total, endOf}
+use Rattle.unwinding.specs.CodeList.{total}
 use Rattle.unwinding.specs.View.{Exit, View, Stretch, stretch, shared, inside, apart, allApart, ascending, fits}
-use Rattle.unwinding.specs.Todo.{always, left, inExit, inExits, todo}
+use Rattle.unwinding.specs.Todo.{always, inExit, inExits, todo}
 use Rattle.unwinding.specs.declared.Scope.{Scope}
-use Rattle.unwinding.proofs.Ends.{total-append, endOf-whole}
+use Rattle.unwinding.proofs.Ends.{total-append, Sized}
+use Rattle.unwinding.proofs.Places.{left-boundary}
 use Rattle.codes.specs.Code.{size}
 use Rattle.codes.specs.declared.Code.{Code}
 use Rattle.forward.specs.Exits.{Of, here, later, InNone}
 use Rattle.forward.specs.Stop.{codesOf}
 use Rattle.words.proofs.Tests.{both}
-use Rattle.forward.proofs.Scanned.{Positive}
-
--- at the end of an instruction the codes of what is left are found
-past : (after n : ℕ) (a l : List Code) → Positive (a ++ l) → total size l + after ≡ n → endOf size after n (a ++ l) ≡ some l
-unfolding endOf total
-past after n [] l p e = endOf-whole size after n l e
-past after n (c ∷ a) l p e =
-    let h : total size (c ∷ (a ++ l)) + after ≡ n → ⊥ = λ q. omega (arith, total-append size a l, p .0) in
-    rw (ne-eqb _ _ h) (past after n a l (p .1) e)
-
-left-past : (p : Place) (after n : ℕ) (a l : List Code) → Positive (a ++ l) → total size l + after ≡ n → left size p after n (a ++ l) ≡ ok (record { place = p; codes = l })
-unfolding left
-left-past p after n a l o e = rw (past after n a l o e) refl
 
 pub todo-prologue :
-    (v : View Code) (ahead done : List Code) → codesOf v ≡ ahead ++ done → Positive (codesOf v) → total size done < v .prologue
+    (v : View Code) (ahead done : List Code) → codesOf v ≡ ahead ++ done → Sized size (codesOf v) → total size done < v .prologue
     → todo size v (total size done) ≡ ok (record { place = Prologue; codes = done })
 unfolding todo
 todo-prologue v ahead done e p h =
     let q : total size done + 0 ≡ total size done = omega arith in
-    rw (lt-ltb _ _ h, e) (left-past Prologue 0 (total size done) ahead done (subst Positive e p) q)
+    rw (lt-ltb _ _ h, e) (left-boundary size Prologue 0 (total size done) ahead done (subst (Sized size) e p) q)
 
 -- ---- in no epilogue
 exits-none : (es : List (Exit Code)) (o : ℕ) (cs : List Code) → InNone o es → inExits size es o cs ≡ ok (record { place = Body; codes = cs })
@@ -113,7 +99,7 @@ pub todo-epilogue :
     → Of sc ex scs (v .exits)
     → ex .condition ≡ always
     → ex .size ≡ total size (ex .codes .list) + ex .codes .endSize
-    → Positive (ex .codes .list)
+    → Sized size (ex .codes .list)
     → ex .codes .list ≡ done ++ rest
     → total size done < ex .size
     → todo size v (ex .start + total size done) ≡ ok (record { place = Epilogue; codes = rest })
@@ -125,7 +111,7 @@ todo-epilogue {ex} span v done rest f m c z p e h =
     let n : total size rest + ex .codes .endSize ≡ ex .start + ex .size - o = omega (arith, z, ap (total size) e, total-append size done rest) in
     rw (le-ltb o (v .prologue) late)
     (found o (codesOf v) m (a .exits) (omega arith) (omega arith)
-    ∙ rw (e, left-past Epilogue (ex .codes .endSize) (ex .start + ex .size - o) done rest (subst Positive e p) n, eq-eqb (ex .condition) always c) refl)
+    ∙ rw (e, left-boundary size Epilogue (ex .codes .endSize) (ex .start + ex .size - o) done rest (subst (Sized size) e p) n, eq-eqb (ex .condition) always c) refl)
   where
     low : Apart v → (t : Bool) → ltb (ex .start + total size done) (v .prologue) ≡ t → v .prologue ≤ ex .start + total size done
     low a true q =

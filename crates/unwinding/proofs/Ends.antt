@@ -1,8 +1,8 @@
 -- The end of a code list whose sizes add up to an amount: what is found is such an end; at each instruction boundary one is found, and
--- where sizes are above 0 it is the only one.
+-- where the codes have sizes above 0 it is the only one.
 -- Assumes nothing.
 use Prim.Native.Nat.{ℕ, _+_, _<_}
-use mathlib.Core.Path.{_≡_, refl, ap}
+use mathlib.Core.Path.{_≡_, refl, ap, subst}
 use mathlib.Core.List.{List, _∷_, _++_, []}
 use mathlib.Core.Bool.{Bool, true, false}
 use mathlib.Core.Option.{none, some}
@@ -60,21 +60,25 @@ module _ {C : Type 0} (size : C → ℕ) where
   endOf-whole after n [] e = let h : after ≡ n = omega arith in rw (eq-eqb after n h) refl
   endOf-whole after n (c ∷ l) e = rw (eq-eqb _ _ e) refl
 
-  module _ (positive : (c : C) → 0 < size c) where
-    -- at an instruction boundary the codes of what is left are found
-    pub endOf-boundary :
-        (after n : ℕ) (a l : List C) → total size l + after ≡ n → endOf size after n (a ++ l) ≡ some l
-    unfolding endOf total
-    endOf-boundary after n [] l e = endOf-whole after n l e
-    endOf-boundary after n (c ∷ a) l e =
-        let h : size c + total size (a ++ l) + after ≡ n → ⊥ = λ q. omega (arith, total-append a l, positive c) in
-        rw (ne-eqb _ _ h) (endOf-boundary after n a l e)
+  -- each code of the list has an instruction
+  abbrev pub Sized : List C → Type 0
+  Sized [] = Unit {0}
+  Sized (c ∷ cs) = (0 < size c) × Sized cs
 
-    -- and no other end of the list has that size
-    pub endOf-only :
-        (after n : ℕ) (a b k l : List C) → a ++ k ≡ b ++ l → total size k + after ≡ n → total size l + after ≡ n → k ≡ l
-    endOf-only after n a b k l e p q =
-        let x : endOf size after n (a ++ k) ≡ some k = endOf-boundary after n a k p in
-        let y : endOf size after n (b ++ l) ≡ some l = endOf-boundary after n b l q in
-        let z : endOf size after n (a ++ k) ≡ endOf size after n (b ++ l) = ap (endOf size after n) e in
-        cc
+  -- at an instruction boundary the codes of what is left are found
+  pub endOf-boundary :
+      (after n : ℕ) (a l : List C) → Sized (a ++ l) → total size l + after ≡ n → endOf size after n (a ++ l) ≡ some l
+  unfolding endOf total
+  endOf-boundary after n [] l z e = endOf-whole after n l e
+  endOf-boundary after n (c ∷ a) l z e =
+      let h : size c + total size (a ++ l) + after ≡ n → ⊥ = λ q. omega (arith, total-append a l, z .0) in
+      rw (ne-eqb _ _ h) (endOf-boundary after n a l (z .1) e)
+
+  -- and no other end of the list has that size
+  pub endOf-only :
+      (after n : ℕ) (a b k l : List C) → Sized (a ++ k) → a ++ k ≡ b ++ l → total size k + after ≡ n → total size l + after ≡ n → k ≡ l
+  endOf-only after n a b k l z e p q =
+      let x : endOf size after n (a ++ k) ≡ some k = endOf-boundary after n a k z p in
+      let y : endOf size after n (b ++ l) ≡ some l = endOf-boundary after n b l (subst Sized e z) q in
+      let w : endOf size after n (a ++ k) ≡ endOf size after n (b ++ l) = ap (endOf size after n) e in
+      cc

@@ -2,7 +2,7 @@
 -- instruction boundary.
 -- Assumes nothing.
 use Prim.Native.Nat.{ℕ, _+_, _-_, _≤_, _<_}
-use mathlib.Core.Path.{_≡_, refl}
+use mathlib.Core.Path.{_≡_, refl, subst}
 use mathlib.Core.List.{List, _∷_, _++_, []}
 use borrow.Author.Tests.{lt-ltb, le-ltb, le-leb, lt-leb, eq-eqb}
 use Rattle.words.specs.declared.CodeBytes.{CodeBytes}
@@ -14,7 +14,7 @@ use Rattle.unwinding.specs.Shape.{Shape, startOf}
 use Rattle.unwinding.specs.View.{Exit, View, exits}
 use Rattle.unwinding.specs.Todo.{always, left, inExit, inExits, todo}
 use Rattle.unwinding.specs.declared.Scope.{Scope}
-use Rattle.unwinding.proofs.Ends.{endOf-boundary}
+use Rattle.unwinding.proofs.Ends.{Sized, endOf-boundary}
 
 module _ {C : Type 0} (size : C → ℕ) (read : List ℕ → CodeBytes → Res (Codes C)) where
   pub exits-none : (s : Shape) → exits size read s [] ≡ ok []
@@ -66,19 +66,18 @@ module _ {C : Type 0} (size : C → ℕ) where
   unfolding inExits
   exits-behind e es o cs a b = rw (le-leb (e .start) o a, le-ltb o (e .start + e .size) b) refl
 
-  module _ (positive : (c : C) → 0 < size c) where
-    -- after the instructions of `done`'s codes, what is left to undo in a prologue is `done`
-    pub left-boundary :
-        (p : Place) (after n : ℕ) (skipped done : List C) → total size done + after ≡ n
-        → left size p after n (skipped ++ done) ≡ ok (record { place = p; codes = done })
-    unfolding left
-    left-boundary p after n skipped done h = rw (endOf-boundary size positive after n skipped done h) refl
+  -- after the instructions of `done`'s codes, what is left to undo in a prologue is `done`
+  pub left-boundary :
+      (p : Place) (after n : ℕ) (skipped done : List C) → Sized size (skipped ++ done) → total size done + after ≡ n
+      → left size p after n (skipped ++ done) ≡ ok (record { place = p; codes = done })
+  unfolding left
+  left-boundary p after n skipped done z h = rw (endOf-boundary size after n skipped done z h) refl
 
-    -- in an unconditional epilogue, what is left is the codes of the instructions not yet done
-    pub exit-boundary :
-        (e : Exit C) (o : ℕ) (done todo : List C) → e .codes .list ≡ done ++ todo → e .condition ≡ always
-        → total size todo + e .codes .endSize ≡ e .start + e .size - o
-        → inExit size e o ≡ ok (record { place = Epilogue; codes = todo })
-    unfolding inExit
-    exit-boundary e o done todo split unconditional h =
-        rw (split, left-boundary Epilogue (e .codes .endSize) (e .start + e .size - o) done todo h, eq-eqb _ _ unconditional) refl
+  -- in an unconditional epilogue, what is left is the codes of the instructions not yet done
+  pub exit-boundary :
+      (e : Exit C) (o : ℕ) (done todo : List C) → e .codes .list ≡ done ++ todo → Sized size (e .codes .list) → e .condition ≡ always
+      → total size todo + e .codes .endSize ≡ e .start + e .size - o
+      → inExit size e o ≡ ok (record { place = Epilogue; codes = todo })
+  unfolding inExit
+  exit-boundary e o done todo split z unconditional h =
+      rw (split, left-boundary Epilogue (e .codes .endSize) (e .start + e .size - o) done todo (subst (Sized size) split z) h, eq-eqb _ _ unconditional) refl
