@@ -18,7 +18,6 @@ use Rattle.unwinding.specs.View.{View}
 use Rattle.codes.specs.declared.Code.{Code}
 use Rattle.codes.specs.declared.Undo.the-variants.{Nothing}
 use Rattle.machine.specs.Registers.{setReg, setSp}
-use Rattle.machine.specs.declared.Regs.{Regs}
 use Rattle.pdata.specs.Pdata.{find}
 use Rattle.record.specs.Record.{shapeOf}
 use Rattle.pdata.specs.declared.Entry.{Entry}
@@ -33,7 +32,8 @@ use Rattle.forward.specs.Body.{Holds, Words, Wanted}
 use Rattle.forward.specs.Body as Kept
 use Rattle.forward.specs.Epilogue.{Ran}
 use Rattle.forward.specs.Epilogue as Leaving
-use Rattle.forward.specs.Exits.{here, full, packed}
+use Rattle.unwinding.specs.Listed.{here}
+use Rattle.forward.specs.Exits.{full, packed}
 use Rattle.forward.specs.Stop.{codesOf, Past}
 use Rattle.forward.specs.Demand.{lending, Asked, Demand3}
 use Rattle.forward.specs.Met.{Plain, Reaches, At, Went, stays}

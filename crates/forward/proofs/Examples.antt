@@ -1,7 +1,7 @@
 -- The conditions of demand 3 can be met: for each kind of record a function that was entered with any registers and comes to stand
 -- in its prologue, its body and its epilogue.
 -- Assumes nothing.
-use Prim.Native.Nat.{ℕ, _+_, _-_, _*_, _^_, _≤_, _<_}
+use Prim.Native.Nat.{ℕ, _+_, _-_, _^_, _≤_, _<_}
 use mathlib.Core.Path.{_≡_, refl, sym, ap, subst}
 use mathlib.Core.List.{List, [], _∷_, _++_, append-nil}
 use mathlib.Core.Bool.{Bool, true, false}
@@ -9,7 +9,7 @@ use mathlib.Core.Option.{Option, some}
 use mathlib.Core.Logic.{inl, inr}
 use lib.ListN.{replicate}
 use native.Mathlib.Omega.{arith}
-use Rattle.words.specs.Bits.{bits, even}
+use Rattle.words.specs.Bits.{even}
 use Rattle.words.specs.Lent.{lent}
 use Rattle.words.proofs.Bytes.{bytesOf}
 use Rattle.words.specs.Units.{halfwords, stackWords}
@@ -35,7 +35,8 @@ use Rattle.forward.specs.Saving.{RX}
 use Rattle.forward.specs.State.{Whole, State}
 use Rattle.forward.specs.Prologue.{Done, none}
 use Rattle.forward.specs.Epilogue.{Ran}
-use Rattle.forward.specs.Exits.{Of, here, later, InNone, Fit, full, packed}
+use Rattle.unwinding.specs.Listed.{Of, here, later, InNone}
+use Rattle.forward.specs.Exits.{Fit, full, packed}
 use Rattle.forward.specs.Stop.{codesOf, Past}
 use Rattle.forward.specs.Met.{FineRX, Fine, room, Plain, Reaches, At, Roomy, Went, Met}
 use Rattle.forward.specs.Met as Meeting

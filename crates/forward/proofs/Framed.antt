@@ -20,7 +20,7 @@ use Rattle.unwinding.specs.CodeList.{Codes}
 use Rattle.unwinding.specs.Shape.{Shape}
 use Rattle.unwinding.specs.View.{Exit, View, view}
 use Rattle.unwinding.specs.declared.Scope.{Scope}
-use Rattle.codes.specs.Code.{codesAt}
+use Rattle.codes.specs.Code.{size, codesAt}
 use Rattle.codes.specs.declared.Code.{Code}
 use Rattle.machine.specs.Step.{stands}
 use Rattle.machine.specs.declared.Regs.{Regs}
@@ -37,20 +37,21 @@ use Rattle.packed_codes.proofs.Decoding.{holds}
 use Rattle.frame.specs.Frame.{Inputs, Caller, fitStack, within, byRecord, frameOf, frame, unwound}
 use Rattle.frame.specs.declared.Unwound.{Unwound}
 use Rattle.forward.specs.State.{State, Outside}
-use Rattle.forward.specs.Exits.{Of, here, later, SavesD, Fit, full, packed}
+use Rattle.unwinding.specs.Listed.{Of, here, later}
+use Rattle.forward.specs.Exits.{SavesD, Fit, full, packed}
 use Rattle.forward.specs.Stop.{codesOf}
 use Rattle.forward.specs.Demand.{lending, Asked, Finds, Demand3}
 use Rattle.forward.proofs.Back.{Near}
 use Rattle.words.proofs.Tests.{both}
-use Rattle.forward.proofs.Viewed.{Viewed, viewed, read-of}
+use Rattle.unwinding.proofs.Viewed.{Viewed, viewed, read-of}
 use Rattle.forward.proofs.Ready.{Second, ready}
 use Rattle.forward.proofs.Within.{finds-in}
 use Rattle.forward.proofs.PackedSecond.{packed-second}
 
 -- ---- the second list of a full record is its first
-same-list : (s : Shape) (v : View Code) (sc : Scope) (ex : Exit Code) → Viewed s v → Of sc ex (s .scopes) (v .exits) → sc .index ≡ codeBytes 0 → Second (codesOf v) (ex .codes .list)
+same-list : (s : Shape) (v : View Code) (sc : Scope) (ex : Exit Code) → Viewed size codesAt s v → Of sc ex (s .scopes) (v .exits) → sc .index ≡ codeBytes 0 → Second (codesOf v) (ex .codes .list)
 same-list s v sc ex w m h =
-    let x = read-of s (w .exits) m in
+    let x = read-of size codesAt s (w .exits) m in
     let e : ok (v .codes) ≡ ok (ex .codes) = sym (w .codes) ∙ ap (codesAt (s .codes)) (sym h) ∙ x .codes in
     let l : codesOf v ≡ ex .codes .list = ap (λ (c : Codes Code). c .list) (let z : v .codes ≡ ex .codes = cc in z) in
     subst (Second (codesOf v)) l (record { inv = λ base e b m v. v; rX = λ x q. q })
@@ -102,7 +103,7 @@ only ret i m h = go (eqb ret 3) refl m h
         empty (later m) q = let z : _≡_ {A = ℕ} 0 1 = cc in omega arith
 
 packed-list :
-    (w : ℕ) (s : Shape) (v : View Code) (sc : Scope) (ex : Exit Code) → packedShape w ≡ ok s → Viewed s v → Of sc ex (s .scopes) (v .exits)
+    (w : ℕ) (s : Shape) (v : View Code) (sc : Scope) (ex : Exit Code) → packedShape w ≡ ok s → Viewed size codesAt s v → Of sc ex (s .scopes) (v .exits)
     → (SavesD (fields w) → PF (fields w) ≡ EF (fields w))
     → Second (codesOf v) (ex .codes .list)
 packed-list w s v sc ex h y m d =
@@ -110,7 +111,7 @@ packed-list w s v sc ex h y m d =
     let i = is-packed w s h in
     let hs = holds p (fields-fit w) in
     let o = only (p .ret) (written p .first) m (i .scopes) in
-    let x = read-of s (y .exits) m in
+    let x = read-of size codesAt s (y .exits) m in
     let a : v .codes ≡ prologueCodes p = given (sym (y .codes) ∙ ap (λ l. codesAt l (codeBytes 0)) (i .codes) ∙ hs .first .read) in
     let b : ex .codes ≡ epilogueCodes p = given (sym (x .codes) ∙ ap₂ codesAt (i .codes) (o .1) ∙ hs .second (o .0) .read) in
     rw (a, b) (packed-second p (fields-fit w) (i .allowed) d)
@@ -120,7 +121,7 @@ packed-list w s v sc ex h y m d =
 
 -- ---- by the record's kind
 pub fit-second :
-    (t : Lent) (r : Entry) (s : Shape) (v : View Code) → shapeOf t r ≡ ok s → Viewed s v → (sc : Scope) (ex : Exit Code) → Of sc ex (s .scopes) (v .exits) → Fit r sc
+    (t : Lent) (r : Entry) (s : Shape) (v : View Code) → shapeOf t r ≡ ok s → Viewed size codesAt s v → (sc : Scope) (ex : Exit Code) → Of sc ex (s .scopes) (v .exits) → Fit r sc
     → Second (codesOf v) (ex .codes .list)
 fit-second t r s v h y sc ex m (full z i) = same-list s v sc ex y m i
 fit-second t r s v h y sc ex m (packed z d) = packed-list (r .word) s v sc ex (rw (ne-eqb (bits 0 2 (r .word)) 0 z) at h) y m d
@@ -163,7 +164,7 @@ answer t g = unwound g (frame t g)
 framed : (t : Inputs) (entry now : State) (a : Asked t entry now) → Finds answer t entry now (a .place) (a .shape .handler) (a .undone)
 framed t entry now a =
     let fit = both (fitStack (t .stack)) (fitXdata (t .xdata)) (a .passes1) in
-    let y = viewed (a .shape) (a .view) (a .passes6-7) in
+    let y = viewed size codesAt (a .shape) (a .view) (a .passes6-7) in
     let top : entry .regs .sp ≤ end (now .stack) = subst (λ (k : Lent). entry .regs .sp ≤ end k) (sym (a .stack)) (a .lent) in
     let m : end (now .stack) < 2 ^ 32 = subst (λ (k : Lent). end k < 2 ^ 32) (sym (a .stack)) (stack-end (t .stack) (fit .0)) in
     let r = ready (a .own) (a .shape) (a .view) entry y (a .aligned) (fit-second (t .xdata) (a .own) (a .shape) (a .view) (a .passes4-5) y) top (a .stopped) in

@@ -7,8 +7,6 @@ pub mod Writing
 pub mod Undoing
 pub mod Leaving
 pub mod Scanned
-pub mod Viewed
-pub mod Placed
 pub mod Ready
 pub mod Within
 pub mod Fold

@@ -1,10 +1,9 @@
 -- Every place of a record whose code list 01 allows a prologue is reached, from any state with room and on from any state on the way.
 -- Assumes nothing.
-use Prim.Native.Nat.{ℕ, _+_, _-_, _*_, _%_, _^_, _≤_, _<_}
+use Prim.Native.Nat.{ℕ, _+_, _-_, _%_, _^_, _≤_, _<_}
 use mathlib.Core.Path.{_≡_, refl, sym, ap, ap₂, _∙_, subst}
-use mathlib.Core.Bool.{true, _&&_}
+use mathlib.Core.Bool.{_&&_}
 use mathlib.Core.List.{List, [], _∷_, _++_, append-nil, append-assoc}
-use mathlib.Core.Option.{some}
 use lib.ListN.{length}
 use native.Mathlib.Omega.{arith}
 use Rattle.words.specs.Bits.{even}
@@ -14,9 +13,7 @@ use Rattle.words.specs.declared.Place.the-variants.{Prologue, Body, Epilogue}
 use Rattle.words.specs.Answer.{ok}
 use Rattle.unwinding.specs.CodeList.{total}
 use Rattle.unwinding.specs.Shape.{Shape}
-use Rattle.unwinding.specs.View.{Exit, View, view}
-use Rattle.unwinding.specs.Todo.{always}
-use Rattle.unwinding.specs.declared.Scope.{Scope}
+use Rattle.unwinding.specs.View.{View, view}
 use Rattle.codes.specs.Code.{size, codesAt}
 use Rattle.codes.specs.declared.Code.{Code}
 use Rattle.codes.specs.declared.Undo.{Undo}
@@ -25,21 +22,18 @@ use Rattle.machine.specs.Registers.{setPc}
 use Rattle.machine.specs.declared.Regs.{Regs}
 use Rattle.machine.specs.Step.{effect}
 use Rattle.pdata.specs.Pdata.{find}
-use Rattle.xdata.specs.Xdata.{fitXdata}
-use Rattle.record.specs.Record.{shapeOf}
 use Rattle.pdata.specs.declared.Entry.{Entry}
-use Rattle.frame.specs.Frame.{Inputs, fitStack}
+use Rattle.frame.specs.Frame.{Inputs}
 use Rattle.forward.specs.Registers.{width}
 use Rattle.forward.specs.Saving.{saves, falls, RX}
 use Rattle.forward.specs.State.{Whole, State}
 use Rattle.forward.specs.Body.{Holds, Words, Wanted, SpAfter, SpIn}
 use Rattle.forward.specs.Body as Kept
 use Rattle.forward.specs.Epilogue.{Undoes, Leaves, Ran, none, next}
-use Rattle.forward.specs.Exits.{Of, InNone, Fit}
-use Rattle.forward.specs.Stop.{codesOf, Past, Stopped, prologue, body, epilogue}
+use Rattle.forward.specs.Stop.{codesOf, Stopped, prologue, body, epilogue}
 use Rattle.forward.specs.Prologue.{Done}
 use Rattle.forward.specs.Prologue as Forth
-use Rattle.forward.specs.Met.{Fine, room, Plain, Reaches, At, Roomy, Boundary, Went, Begun, Everywhere, Onward, Onset, Used, Leaving, Met}
+use Rattle.forward.specs.Met.{Fine, room, Plain, Reaches, At, Roomy, Went, Everywhere, Onward, Onset, Used, Leaving, Met}
 use Rattle.forward.specs.Met as Meeting
 use Rattle.forward.proofs.Back.{St, Inv, inv-near}
 use Rattle.forward.proofs.Flat.{ops, flat}
@@ -49,7 +43,7 @@ use Rattle.forward.proofs.Leaving.{left-stack, inv-left}
 use Rattle.forward.proofs.Memory.{outside-same}
 use Rattle.forward.proofs.Scanned.{codes-fair}
 use Rattle.forward.proofs.Ready.{sound-end}
-use Rattle.forward.proofs.Viewed.{viewed, read-of}
+use Rattle.unwinding.proofs.Viewed.{viewed, read-of}
 use Rattle.forward.proofs.Framed.{fit-second, fit-like}
 use Rattle.forward.proofs.Real.{Real, Bytes, Solid, effect-real}
 use Rattle.forward.proofs.Executing.{standing, done-place, room-append, done-went, after, runs, after-solid}
@@ -258,8 +252,8 @@ ran-on (next c f g) m = next c f (ran-on g m)
 leaving : {t : Inputs} {own : Entry} {s : Shape} {v : View Code} (e : State) → Leaving t own s v e
 unfolding reach
 leaving {t} {own} {s} {v} e sc ex start mid gone more undone a of fit c q h r p m w =
-    let y = viewed s v (a .passes6-7) in
-    let x = read-of s (y .exits) of in
+    let y = viewed size codesAt s v (a .passes6-7) in
+    let x = read-of size codesAt s (y .exits) of in
     let second = fit-second (t .xdata) own s v (a .passes4-5) y sc ex of fit in
     let k : Lent = start .stack in
     let d = done-place (p .done) in

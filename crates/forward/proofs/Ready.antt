@@ -13,12 +13,13 @@ use Rattle.unwinding.specs.Shape.{Shape}
 use Rattle.unwinding.specs.View.{Exit, View}
 use Rattle.unwinding.specs.Todo.{todo}
 use Rattle.unwinding.specs.declared.Scope.{Scope}
-use Rattle.codes.specs.Code.{size}
+use Rattle.codes.specs.Code.{size, codesAt}
 use Rattle.codes.specs.declared.Code.{Code}
 use Rattle.pdata.specs.declared.Entry.{Entry}
 use Rattle.forward.specs.Saving.{RX}
 use Rattle.forward.specs.State.{State}
-use Rattle.forward.specs.Exits.{Of, Fit}
+use Rattle.unwinding.specs.Listed.{Of}
+use Rattle.forward.specs.Exits.{Fit}
 use Rattle.forward.specs.Stop.{codesOf, InPrologue, InBody, InEpilogue, Stopped, prologue, body, epilogue}
 use Rattle.forward.proofs.Ops.{Seen}
 use Rattle.forward.proofs.Back.{St, Inv}
@@ -27,8 +28,8 @@ use Rattle.forward.proofs.Steps.{seen, st, inv-prologue, inv-body}
 use Rattle.forward.proofs.Undoing.{AllSound}
 use Rattle.forward.proofs.Leaving.{inv-left, left-stack}
 use Rattle.forward.proofs.Scanned.{codes-fair}
-use Rattle.forward.proofs.Viewed.{Viewed, read-of}
-use Rattle.forward.proofs.Placed.{todo-prologue, todo-body, todo-epilogue}
+use Rattle.unwinding.proofs.Viewed.{Viewed, read-of}
+use Rattle.unwinding.proofs.Places.{todo-prologue, todo-body, todo-epilogue}
 
 -- the second list undoes what the first does
 pub record Second (first second : List Code) : Type 0 where
@@ -44,20 +45,20 @@ pub sound-end : (a b : List Code) → AllSound (a ++ b) → AllSound b
 sound-end [] b h = h
 sound-end (c ∷ a) b h = sound-end a b (h .1)
 
-module _ (r : Entry) (s : Shape) (v : View Code) (entry : State) (w : Viewed s v) (al : entry .regs .sp % 4 ≡ 0) where
+module _ (r : Entry) (s : Shape) (v : View Code) (entry : State) (w : Viewed size codesAt s v) (al : entry .regs .sp % 4 ≡ 0) where
   ready-prologue : {o : ℕ} {now : State} {cs : List Code} → InPrologue v entry o now cs → Ready v entry o now Prologue cs
   ready-prologue {o} {cs = cs} h =
       let f = codes-fair _ _ _ (w .codes) in
       let e : total size cs ≡ o = sym (h .offset) in
       record {
-        todo = subst (λ n. todo size v n ≡ ok (record { place = Prologue; codes = cs })) e (todo-prologue v (h .ahead) cs (h .codes) (f .1) (omega (arith, e, h .early)));
+        todo = subst (λ n. todo size v n ≡ ok (record { place = Prologue; codes = cs })) e (todo-prologue size v (h .ahead) cs (h .codes) (f .1) (omega (arith, e, h .early)));
         sound = sound-end (h .ahead) cs (subst AllSound (h .codes) (f .0));
         inv = inv-prologue al (h .done) (h .stays);
       }
 
   ready-body : {o : ℕ} {now : State} → InBody v entry o now → Ready v entry o now Body (codesOf v)
   ready-body {o} h = record {
-    todo = todo-body v o (h .late) (h .outside);
+    todo = todo-body size v o (h .late) (h .outside);
     sound = codes-fair _ _ _ (w .codes) .0;
     inv = inv-body al (h .past .done) (h .past .stays) (h .past .keeps);
   }
@@ -66,7 +67,7 @@ module _ (r : Entry) (s : Shape) (v : View Code) (entry : State) (w : Viewed s v
       {o : ℕ} {now : State} {cs : List Code} (h : InEpilogue r s v entry o now cs) → entry .regs .sp ≤ end (now .stack) → Second (codesOf v) (h .exit .codes .list)
       → Ready v entry o now Epilogue cs
   ready-epilogue {o} {now} {cs} h top q =
-      let x = read-of s (w .exits) (h .listed) in
+      let x = read-of size codesAt s (w .exits) (h .listed) in
       let fair = codes-fair _ _ _ (x .codes) in
       let k : Lent = h .start .stack in
       let stack : now .stack ≡ k = left-stack (h .ran) in
@@ -77,7 +78,7 @@ module _ (r : Entry) (s : Shape) (v : View Code) (entry : State) (w : Viewed s v
       (subst (λ y. Inv (k .base) (st entry) (flat y) (seen (h .start .regs)) (wordAt k)) (h .codes) i) in
       record {
         todo = subst (λ n. todo size v n ≡ ok (record { place = Epilogue; codes = cs })) (sym (h .offset))
-            (todo-epilogue (s .span) v (h .gone) cs (w .fit) (h .listed) (h .unconditional) (x .long) (fair .1) (h .codes) (h .inside));
+            (todo-epilogue size (s .span) v (h .gone) cs (w .fit) (h .listed) (h .unconditional) (x .long) (fair .1) (h .codes) (h .inside));
         sound = sound-end (h .gone) cs sound;
         inv = subst (λ (y : Lent). Inv (y .base) (st entry) (flat cs) (seen (now .regs)) (wordAt y)) (sym stack) j;
       }

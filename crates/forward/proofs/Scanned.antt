@@ -1,6 +1,6 @@
 -- Every code that is read from code bytes is one of the table's: sound, and with an instruction of some size.
 -- Assumes nothing.
-use Prim.Native.Nat.{ℕ, zero, suc, _+_, _-_, _^_, _<_}
+use Prim.Native.Nat.{ℕ, zero, suc, _+_, _^_, _<_}
 use mathlib.Core.Path.{_≡_, refl, ap, subst}
 use mathlib.Core.List.{List, [], _∷_}
 use mathlib.Core.Bool.{Bool, true, false, _||_}
@@ -11,7 +11,7 @@ use borrow.Author.Tests.{ne-eqb}
 use Rattle.words.specs.Bits.{bits, bit}
 use Rattle.words.specs.Units.{codeBytes, stackWords}
 use Rattle.words.specs.declared.CodeBytes.{CodeBytes}
-use Rattle.words.specs.Answer.{ok, _>>=_, if_then_else_}
+use Rattle.words.specs.Answer.{ok, if_then_else_}
 use Rattle.unwinding.specs.CodeList.{Codes}
 use Rattle.codes.specs.Table.{Row, rows, rowIn, rowOf, range, lrIf}
 use Rattle.codes.specs.Code.{size, value, taken, takeFrom, scan, codesAt}

@@ -31,7 +31,8 @@ use Rattle.forward.specs.Saving.{falls, Saved, RX}
 use Rattle.forward.specs.State.{State}
 use Rattle.forward.specs.Prologue.{Does, Done}
 use Rattle.forward.specs.Epilogue.{Ran}
-use Rattle.forward.specs.Exits.{Of, InNone, Fit}
+use Rattle.unwinding.specs.Listed.{Of, InNone}
+use Rattle.forward.specs.Exits.{Fit}
 use Rattle.forward.specs.Stop.{codesOf, Past}
 use Rattle.forward.specs.Demand.{lending, Asked}
 

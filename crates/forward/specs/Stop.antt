@@ -19,7 +19,8 @@ use Rattle.forward.specs.State.{State}
 use Rattle.forward.specs.Prologue.{Done}
 use Rattle.forward.specs.Body as Kept
 use Rattle.forward.specs.Epilogue.{Ran}
-use Rattle.forward.specs.Exits.{Of, InNone, Fit}
+use Rattle.unwinding.specs.Listed.{Of, InNone}
+use Rattle.forward.specs.Exits.{Fit}
 
 -- the codes from index 0
 abbrev pub codesOf : View Code → List Code

@@ -1,83 +1,136 @@
--- Where an offset stands: one-step laws of reading a record's epilogues and of looking among them, and what is left to undo at an
--- instruction boundary.
+-- Where the pc stands by its offset, and which codes are left to undo there: those of the instructions done in the prologue, all of
+-- them in the body, those of the instructions to come in an epilogue.
 -- Assumes nothing.
-use Prim.Native.Nat.{ℕ, _+_, _-_, _≤_, _<_}
-use mathlib.Core.Path.{_≡_, refl, subst}
-use mathlib.Core.List.{List, _∷_, _++_, []}
-use borrow.Author.Tests.{lt-ltb, le-ltb, le-leb, lt-leb, eq-eqb}
-use Rattle.words.specs.declared.CodeBytes.{CodeBytes}
+use Prim.Native.Nat.{ℕ, _+_, _-_, _≤_, _<_, min, max}
+use mathlib.Core.Path.{_≡_, refl, ap, _∙_, subst}
+use mathlib.Core.Bool.{Bool, true, false, _&&_, not}
+use mathlib.Core.Logic.{_⊎_, inl, inr}
+use mathlib.Core.List.{List, [], _∷_, _++_, map}
+use lib.Dec.{leb, ltb}
+use native.Mathlib.Omega.{arith}
+use borrow.Author.Tests.{lt-ltb, le-ltb, le-leb, lt-leb, ltb-true, ltb-false, leb-true, eq-eqb}
 use Rattle.words.specs.declared.Place.{Place}
 use Rattle.words.specs.declared.Place.the-variants.{Prologue, Body, Epilogue}
-use Rattle.words.specs.Answer.{Res, ok, _>>=_}
-use Rattle.unwinding.specs.CodeList.{Codes, total}
-use Rattle.unwinding.specs.Shape.{Shape, startOf}
-use Rattle.unwinding.specs.View.{Exit, View, exits}
+use Rattle.words.specs.Answer.{ok, if_then_else_}
+use Rattle.unwinding.specs.CodeList.{total}
+use Rattle.unwinding.specs.View.{Exit, View, Stretch, stretch, shared, inside, apart, allApart, ascending, fits}
 use Rattle.unwinding.specs.Todo.{always, left, inExit, inExits, todo}
+use Rattle.unwinding.specs.Listed.{Of, here, later, InNone}
 use Rattle.unwinding.specs.declared.Scope.{Scope}
-use Rattle.unwinding.proofs.Ends.{Sized, endOf-boundary}
+use Rattle.unwinding.proofs.Ends.{total-append, Sized, endOf-boundary}
+use Rattle.words.proofs.Tests.{both}
 
-module _ {C : Type 0} (size : C → ℕ) (read : List ℕ → CodeBytes → Res (Codes C)) where
-  pub exits-none : (s : Shape) → exits size read s [] ≡ ok []
-  unfolding exits
-  exits-none s = refl
+-- ---- stretches that are apart
+-- two that are apart hold no offset together
+apart-not : (a b : Stretch) (o : ℕ) → not (shared a b) ≡ true → a .from ≤ o → o < a .to → b .from ≤ o → o < b .to → ⊥
+apart-not a b o h p q r s =
+    let m : max (a .from) (b .from) < min (a .to) (b .to) = omega arith in
+    let z : not (shared a b) ≡ false = rw (lt-ltb _ _ m) refl in
+    let y : _≡_ {A = ℕ} 0 1 = cc in
+    omega arith
 
-  -- the epilogue of a scope, once its codes are read
-  abbrev pub exitOf : Shape → Scope → Codes C → Exit C
-  exitOf s e c =
-      record { start = startOf (e .start) (s .span) (total size (c .list) + c .endSize); size = total size (c .list) + c .endSize; condition = e .condition; codes = c }
+apart-of :
+    {C : Type 0} {sc : Scope} {ex : Exit C} {scs : List Scope} {exs : List (Exit C)} (a : Stretch) → Of sc ex scs exs → apart a (map stretch exs) ≡ true
+    → not (shared a (stretch ex)) ≡ true
+apart-of {ex} a (here {exs = exs}) h = both (not (shared a (stretch ex))) (apart a (map stretch exs)) h .0
+apart-of a (later {b = b} {exs = exs} m) h = apart-of a m (both (not (shared a (stretch b))) (apart a (map stretch exs)) h .1)
 
-  pub exits-step :
-      (s : Shape) (e : Scope) (es : List Scope)
-      → exits size read s (e ∷ es) ≡ (read (s .codes) (e .index) >>= λ c. exits size read s es >>= λ rest. ok (exitOf s e c ∷ rest))
-  unfolding exits
-  exits-step s e es = refl
+-- the prologue and the epilogues are apart
+record Apart {C : Type 0} (v : View C) : Type 0 where
+  prologue : apart (record { from = 0; to = v .prologue }) (map stretch (v .exits)) ≡ true
+  exits : allApart (map stretch (v .exits)) ≡ true
+
+all-apart : {C : Type 0} (span : ℕ) (v : View C) → fits span (v .prologue) (v .exits) ≡ true → Apart v
+all-apart span v h =
+    let all : List Stretch = record { from = 0; to = v .prologue } ∷ map stretch (v .exits) in
+    let a = both (inside span all && ascending (map (λ e. e .start) (v .exits))) (allApart all) h in
+    let b = both (apart (record { from = 0; to = v .prologue }) (map stretch (v .exits))) (allApart (map stretch (v .exits))) (a .1) in
+    record { prologue = b .0; exits = b .1 }
 
 module _ {C : Type 0} (size : C → ℕ) where
-  -- below the prologue's size the place is the prologue
-  pub todo-prologue :
-      (v : View C) (o : ℕ) → o < v .prologue → todo size v o ≡ left size Prologue 0 o (v .codes .list)
-  unfolding todo
-  todo-prologue v o h = rw (lt-ltb o (v .prologue) h) refl
-
-  pub todo-after :
-      (v : View C) (o : ℕ) → v .prologue ≤ o → todo size v o ≡ inExits size (v .exits) o (v .codes .list)
-  unfolding todo
-  todo-after v o h = rw (le-ltb o (v .prologue) h) refl
-
-  -- among the epilogues: none is left, this one, or a later one
-  pub exits-body : (o : ℕ) (cs : List C) → inExits size [] o cs ≡ ok (record { place = Body; codes = cs })
-  unfolding inExits
-  exits-body o cs = refl
-
-  pub exits-here :
-      (e : Exit C) (es : List (Exit C)) (o : ℕ) (cs : List C) → e .start ≤ o → o < e .start + e .size
-      → inExits size (e ∷ es) o cs ≡ inExit size e o
-  unfolding inExits
-  exits-here e es o cs a b = rw (le-leb (e .start) o a, lt-ltb o (e .start + e .size) b) refl
-
-  pub exits-before :
-      (e : Exit C) (es : List (Exit C)) (o : ℕ) (cs : List C) → o < e .start → inExits size (e ∷ es) o cs ≡ inExits size es o cs
-  unfolding inExits
-  exits-before e es o cs a = rw (lt-leb (e .start) o a) refl
-
-  pub exits-behind :
-      (e : Exit C) (es : List (Exit C)) (o : ℕ) (cs : List C) → e .start ≤ o → e .start + e .size ≤ o
-      → inExits size (e ∷ es) o cs ≡ inExits size es o cs
-  unfolding inExits
-  exits-behind e es o cs a b = rw (le-leb (e .start) o a, le-ltb o (e .start + e .size) b) refl
-
-  -- after the instructions of `done`'s codes, what is left to undo in a prologue is `done`
+  -- at an instruction boundary what is left is found
   pub left-boundary :
       (p : Place) (after n : ℕ) (skipped done : List C) → Sized size (skipped ++ done) → total size done + after ≡ n
       → left size p after n (skipped ++ done) ≡ ok (record { place = p; codes = done })
   unfolding left
   left-boundary p after n skipped done z h = rw (endOf-boundary size after n skipped done z h) refl
 
-  -- in an unconditional epilogue, what is left is the codes of the instructions not yet done
+  -- ---- in the prologue
+  pub todo-prologue :
+      (v : View C) (ahead done : List C) → v .codes .list ≡ ahead ++ done → Sized size (v .codes .list) → total size done < v .prologue
+      → todo size v (total size done) ≡ ok (record { place = Prologue; codes = done })
+  unfolding todo
+  todo-prologue v ahead done e p h =
+      let q : total size done + 0 ≡ total size done = omega arith in
+      rw (lt-ltb _ _ h, e) (left-boundary Prologue 0 (total size done) ahead done (subst (Sized size) e p) q)
+
+  -- ---- in no epilogue
+  exits-none : (es : List (Exit C)) (o : ℕ) (cs : List C) → InNone o es → inExits size es o cs ≡ ok (record { place = Body; codes = cs })
+  unfolding inExits
+  exits-none [] o cs h = refl
+  exits-none (e ∷ es) o cs h = ap (λ t. if t then inExit size e o else inExits size es o cs) (out (h .0)) ∙ exits-none es o cs (h .1)
+    where
+      out : (o < e .start) ⊎ (e .start + e .size ≤ o) → (leb (e .start) o && ltb o (e .start + e .size)) ≡ false
+      out (inl l) = rw (lt-leb _ _ l) refl
+      out (inr l) = go (leb (e .start) o)
+        where
+          go : (t : Bool) → (t && ltb o (e .start + e .size)) ≡ false
+          go true = le-ltb _ _ l
+          go false = refl
+
+  pub todo-body : (v : View C) (o : ℕ) → v .prologue ≤ o → InNone o (v .exits) → todo size v o ≡ ok (record { place = Body; codes = v .codes .list })
+  unfolding todo
+  todo-body v o h n = rw (le-ltb _ _ h) (exits-none (v .exits) o (v .codes .list) n)
+
+  -- ---- in an epilogue
   pub exit-boundary :
-      (e : Exit C) (o : ℕ) (done todo : List C) → e .codes .list ≡ done ++ todo → Sized size (e .codes .list) → e .condition ≡ always
-      → total size todo + e .codes .endSize ≡ e .start + e .size - o
-      → inExit size e o ≡ ok (record { place = Epilogue; codes = todo })
+      (e : Exit C) (o : ℕ) (done rest : List C) → e .codes .list ≡ done ++ rest → Sized size (e .codes .list) → e .condition ≡ always
+      → total size rest + e .codes .endSize ≡ e .start + e .size - o
+      → inExit size e o ≡ ok (record { place = Epilogue; codes = rest })
   unfolding inExit
-  exit-boundary e o done todo split z unconditional h =
-      rw (split, left-boundary Epilogue (e .codes .endSize) (e .start + e .size - o) done todo (subst (Sized size) split z) h, eq-eqb _ _ unconditional) refl
+  exit-boundary e o done rest split z c h =
+      rw (split, left-boundary Epilogue (e .codes .endSize) (e .start + e .size - o) done rest (subst (Sized size) split z) h, eq-eqb (e .condition) always c) refl
+
+  -- of epilogues that are apart, the one that the offset falls into
+  found :
+      {sc : Scope} {ex : Exit C} {scs : List Scope} {exs : List (Exit C)} (o : ℕ) (cs : List C) → Of sc ex scs exs → allApart (map stretch exs) ≡ true
+      → ex .start ≤ o
+      → o < ex .start + ex .size
+      → inExits size exs o cs ≡ inExit size ex o
+  unfolding inExits
+  found {ex} o cs (here {exs = exs}) h p q = rw (le-leb _ _ p, lt-ltb _ _ q) refl
+  found {ex} o cs (later {b = b} {exs = exs} m) h p q =
+      let w = both (apart (stretch b) (map stretch exs)) (allApart (map stretch exs)) h in
+      go (leb (b .start) o) (ltb o (b .start + b .size)) refl refl (apart-of (stretch b) m (w .0)) (found o cs m (w .1) p q)
+    where
+      go :
+          (s t : Bool) → leb (b .start) o ≡ s → ltb o (b .start + b .size) ≡ t → not (shared (stretch b) (stretch ex)) ≡ true → inExits size exs o cs ≡ inExit size ex o
+          → (if s && t then inExit size b o else inExits size exs o cs) ≡ inExit size ex o
+      go true true e f n ih = absurd (apart-not (stretch b) (stretch ex) o n (leb-true _ _ e) (ltb-true _ _ f) p q)
+      go true false e f n ih = ih
+      go false t e f n ih = ih
+
+  pub todo-epilogue :
+      {sc : Scope} {ex : Exit C} {scs : List Scope} (span : ℕ) (v : View C) (done rest : List C) → fits span (v .prologue) (v .exits) ≡ true
+      → Of sc ex scs (v .exits)
+      → ex .condition ≡ always
+      → ex .size ≡ total size (ex .codes .list) + ex .codes .endSize
+      → Sized size (ex .codes .list)
+      → ex .codes .list ≡ done ++ rest
+      → total size done < ex .size
+      → todo size v (ex .start + total size done) ≡ ok (record { place = Epilogue; codes = rest })
+  unfolding todo
+  todo-epilogue {ex} span v done rest f m c z p e h =
+      let o : ℕ = ex .start + total size done in
+      let a = all-apart span v f in
+      let late : v .prologue ≤ o = low a (ltb o (v .prologue)) refl in
+      let n : total size rest + ex .codes .endSize ≡ ex .start + ex .size - o = omega (arith, z, ap (total size) e, total-append size done rest) in
+      rw (le-ltb o (v .prologue) late)
+      (found o (v .codes .list) m (a .exits) (omega arith) (omega arith) ∙ exit-boundary ex o done rest e p c n)
+    where
+      low : Apart v → (t : Bool) → ltb (ex .start + total size done) (v .prologue) ≡ t → v .prologue ≤ ex .start + total size done
+      low a true q =
+          absurd
+          (let p : Stretch = record { from = 0; to = v .prologue } in
+          apart-not p (stretch ex) (ex .start + total size done) (apart-of p m (a .prologue)) (omega arith) (ltb-true _ _ q) (omega arith) (omega arith))
+      low a false q = ltb-false _ _ q

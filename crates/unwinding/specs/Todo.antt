@@ -9,7 +9,7 @@ use Rattle.words.specs.declared.Place.{Place}
 use Rattle.words.specs.declared.Place.the-variants.{Prologue, Body, Epilogue}
 use Rattle.words.specs.declared.Refusal.the-variants.{InsideInstruction, Conditional}
 use Rattle.words.specs.Answer.{Res, ok, refuse, _>>=_, _>>_, need, if_then_else_, maybe}
-use Rattle.unwinding.specs.CodeList.{Codes, endOf}
+use Rattle.unwinding.specs.CodeList.{endOf}
 use Rattle.unwinding.specs.View.{Exit, View}
 
 pub record Todo (C : Type 0) : Type 0 where
