@@ -2,3 +2,4 @@ pub mod Table
 pub mod Code
 pub mod Reading
 pub mod Skip
+pub mod Condition

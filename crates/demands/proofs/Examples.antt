@@ -22,6 +22,7 @@ use Rattle.unwinding.specs.Todo.{Todo, todo}
 use Rattle.codes.specs.declared.Code.{Code}
 use Rattle.codes.specs.declared.Undo.the-variants.{Up, Pop, SpFrom}
 use Rattle.codes.specs.Code.{size, codesAt}
+use Rattle.codes.specs.Condition.{executing}
 use Rattle.machine.specs.declared.Regs.{Regs}
 use Rattle.machine.specs.Registers.{reg, setReg, setSp}
 use Rattle.machine.specs.Step.{stands, load, popReg, pop, step}
@@ -260,7 +261,7 @@ module _ (k : Lent) (fit : fitStack k ≡ true) where
       )
 
 -- what the record says there
-all-three : todo size (views framed) 8 ≡ says Body (cC7 ∷ cDD ∷ c04 ∷ [])
+all-three : todo size executing (views framed) 8 ≡ says Body (cC7 ∷ cDD ∷ c04 ∷ [])
 unfolding opened
 all-three = refl
 

@@ -21,9 +21,10 @@ use Rattle.words.specs.Answer.{Res, ok, refuse, _>>=_, _>>_, need, if_then_else
 use Rattle.unwinding.specs.CodeList.{endOf, run}
 use Rattle.unwinding.specs.Shape.{Shape}
 use Rattle.unwinding.specs.View.{Exit, View, view}
-use Rattle.unwinding.specs.Todo.{Todo, always, left, inExit, inExits, todo}
+use Rattle.unwinding.specs.Todo.{Todo, left, inExit, inExits, todo}
 use Rattle.codes.specs.declared.Code.{Code}
 use Rattle.codes.specs.Code.{size, codesAt}
+use Rattle.codes.specs.Condition.{executing}
 use Rattle.machine.specs.declared.Regs.{Regs}
 use Rattle.machine.specs.Step.{stands, step}
 use Rattle.pdata.specs.declared.Entry.{Entry}
@@ -53,23 +54,23 @@ inner-if : (b : Bool) (x y : Res (Todo Code)) → Inner x → Inner y → Inner 
 inner-if true x y h k = h
 inner-if false x y h k = k
 
-inner-exit : (e : Exit Code) (o : ℕ) → Inner (inExit size e o)
+inner-exit : (e : Exit Code) (o : ℕ) → Inner (inExit size executing e o)
 unfolding inExit Inner
 inner-exit e o t q =
     let l = left size Epilogue (e .codes .endSize) (e .start + e .size - o) (e .codes .list) in
-    let u = bind-ok l (λ t. need (eqb (e .condition) always) Conditional >> ok t) t q in
-    let v = need-ok (eqb (e .condition) always) Conditional (ok (u .0)) t (u .2) in
+    let u = bind-ok l (λ t. need (executing (e .condition)) Conditional >> ok t) t q in
+    let v = need-ok (executing (e .condition)) Conditional (ok (u .0)) t (u .2) in
     inner-left Epilogue (e .codes .endSize) (e .start + e .size - o) (e .codes .list) (λ q. let z : _≡_ {A = ℕ} 0 1 = cc in omega arith) t (u .1 ∙ v .1)
 
-inner-exits : (es : List (Exit Code)) (o : ℕ) (cs : List Code) → Inner (inExits size es o cs)
+inner-exits : (es : List (Exit Code)) (o : ℕ) (cs : List Code) → Inner (inExits size executing es o cs)
 unfolding inExits Inner
 inner-exits [] o cs = λ t q z. let y : _≡_ {A = ℕ} 0 1 = cc in omega arith
-inner-exits (e ∷ es) o cs = inner-if (leb (e .start) o && ltb o (e .start + e .size)) (inExit size e o) (inExits size es o cs) (inner-exit e o) (inner-exits es o cs)
+inner-exits (e ∷ es) o cs = inner-if (leb (e .start) o && ltb o (e .start + e .size)) (inExit size executing e o) (inExits size executing es o cs) (inner-exit e o) (inner-exits es o cs)
 
-inner-todo : (v : View Code) (o : ℕ) → Inner (todo size v o)
+inner-todo : (v : View Code) (o : ℕ) → Inner (todo size executing v o)
 unfolding todo
 inner-todo v o =
-    inner-if (ltb o (v .prologue)) (left size Prologue 0 o (v .codes .list)) (inExits size (v .exits) o (v .codes .list))
+    inner-if (ltb o (v .prologue)) (left size Prologue 0 o (v .codes .list)) (inExits size executing (v .exits) o (v .codes .list))
     (inner-left Prologue 0 o (v .codes .list) (λ q. let z : _≡_ {A = ℕ} 0 1 = cc in omega arith))
     (inner-exits (v .exits) o (v .codes .list))
 
@@ -77,7 +78,7 @@ inner-within : (k : Lent) (s : Shape) (o : ℕ) (g : Regs) (c : Caller) → with
 unfolding within Inner
 inner-within k s o g c q =
     let u = bind-ok (view size codesAt s) _ c q in
-    let v = bind-ok (todo size (u .0) o) _ c (u .2) in
+    let v = bind-ok (todo size executing (u .0) o) _ c (u .2) in
     let w = bind-ok (run (step k) (v .0 .codes) g) _ c (v .2) in
     let d : Caller = record { regs = returned (w .0); place = v .0 .place; handler = s .handler; codes = length (v .0 .codes) } in
     let x = need-ok (leb (g .sp) (w .0 .sp)) SpFell (ok d) c (w .2) in

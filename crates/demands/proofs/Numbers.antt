@@ -23,9 +23,10 @@ use Rattle.words.specs.Answer.{Res, ok, refuse, _>>=_, _>>_, need, if_then_else
 use Rattle.unwinding.specs.CodeList.{total, endOf, run}
 use Rattle.unwinding.specs.Shape.{Shape}
 use Rattle.unwinding.specs.View.{Exit, View, ascending, fits, exits, view}
-use Rattle.unwinding.specs.Todo.{Todo, always, left, inExit, inExits, todo}
+use Rattle.unwinding.specs.Todo.{Todo, left, inExit, inExits, todo}
 use Rattle.unwinding.specs.declared.Scope.{Scope}
 use Rattle.codes.specs.Code.{size, Scan, takeFrom, follow, scanFrom, scan, codesAt}
+use Rattle.codes.specs.Condition.{executing}
 use Rattle.codes.specs.Table.{rowOf}
 use Rattle.codes.specs.declared.Code.{Code}
 use Rattle.codes.specs.declared.Taken.{Taken}
@@ -162,16 +163,16 @@ module _ (P : ℕ → Type 0) (all : (k : ℕ) → k ≤ 11 → P k) where
       go none = refused P InsideInstruction (all 9 (omega arith))
       go (some l) = given P _
 
-  up-exit : (e : Exit Code) (o : ℕ) → Only P (inExit size e o)
+  up-exit : (e : Exit Code) (o : ℕ) → Only P (inExit size executing e o)
   unfolding inExit
-  up-exit e o = bound P (left size _ (e .codes .endSize) (e .start + e .size - o) (e .codes .list)) _ (up-left _ (e .codes .endSize) (e .start + e .size - o) (e .codes .list)) (λ t. needed P (eqb (e .condition) always) Conditional _ (all 10 (omega arith)) (given P t))
+  up-exit e o = bound P (left size _ (e .codes .endSize) (e .start + e .size - o) (e .codes .list)) _ (up-left _ (e .codes .endSize) (e .start + e .size - o) (e .codes .list)) (λ t. needed P (executing (e .condition)) Conditional _ (all 10 (omega arith)) (given P t))
 
-  up-in : (es : List (Exit Code)) (o : ℕ) (cs : List Code) → Only P (inExits size es o cs)
+  up-in : (es : List (Exit Code)) (o : ℕ) (cs : List Code) → Only P (inExits size executing es o cs)
   unfolding inExits
   up-in [] o cs = given P _
-  up-in (e ∷ es) o cs = either-way P (leb (e .start) o && ltb o (e .start + e .size)) (inExit size e o) (inExits size es o cs) (up-exit e o) (up-in es o cs)
+  up-in (e ∷ es) o cs = either-way P (leb (e .start) o && ltb o (e .start + e .size)) (inExit size executing e o) (inExits size executing es o cs) (up-exit e o) (up-in es o cs)
 
-  up-todo : (v : View Code) (o : ℕ) → Only P (todo size v o)
+  up-todo : (v : View Code) (o : ℕ) → Only P (todo size executing v o)
   unfolding todo
   up-todo v o = either-way P (ltb o (v .prologue)) _ _ (up-left _ 0 o (v .codes .list)) (up-in (v .exits) o (v .codes .list))
 
@@ -206,7 +207,7 @@ module _ (P : ℕ → Type 0) (all : (k : ℕ) → k ≤ 11 → P k) where
   unfolding within
   up-within k s o g =
       bound P (view size codesAt s) _ (up-view s)
-      (λ v. bound P (todo size v o) _ (up-todo v o)
+      (λ v. bound P (todo size executing v o) _ (up-todo v o)
       (λ t. bound P (run (step k) (t .codes) g) _ (up-run k (t .codes) g) (λ h. needed P (leb (g .sp) (h .sp)) SpFell _ (all 11 (omega arith)) (given P _))))
 
   up-frame : (first : Bool) → ((g : Regs) → Only P (uncovered first g)) → (t : Inputs) (g : Regs) → Only P (frameOf first t g)

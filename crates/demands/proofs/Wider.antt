@@ -23,6 +23,7 @@ use Rattle.unwinding.specs.Shape.{Shape}
 use Rattle.unwinding.specs.View.{view}
 use Rattle.unwinding.specs.Todo.{todo}
 use Rattle.codes.specs.Code.{size, codesAt}
+use Rattle.codes.specs.Condition.{executing}
 use Rattle.codes.specs.declared.Code.{Code}
 use Rattle.codes.specs.declared.Undo.{Undo}
 use Rattle.codes.specs.declared.Undo.the-variants.{Up, Pop, SpFrom, Vpop, LoadLr, Nothing}
@@ -153,7 +154,7 @@ module _ (k k′ : Lent) (m : More k k′) where
   unfolding within
   stays-within s o g =
       stays-bind (view size codesAt s) (view size codesAt s) _ _ (λ e. refl)
-      (λ v p. stays-bind (todo size v o) (todo size v o) _ _ (λ e. refl)
+      (λ v p. stays-bind (todo size executing v o) (todo size executing v o) _ _ (λ e. refl)
       (λ t q. stays-bind (run (step k) (t .codes) g) (run (step k′) (t .codes) g) _ _ (stays-run (step k) (step k′) stays-step (t .codes) g)
       (λ h r e. refl)))
 

@@ -18,9 +18,9 @@ use Rattle.words.specs.Answer.{Res, ok, orElse}
 use Rattle.unwinding.specs.Shape.{Shape}
 use Rattle.unwinding.specs.CodeList.{total}
 use Rattle.unwinding.specs.View.{Exit, View, view}
-use Rattle.unwinding.specs.Todo.{always}
 use Rattle.unwinding.specs.declared.Scope.{Scope}
 use Rattle.codes.specs.Code.{size, codesAt}
+use Rattle.codes.specs.Condition.{always}
 use Rattle.codes.specs.declared.Code.{Code}
 use Rattle.codes.specs.declared.Undo.{Undo}
 use Rattle.codes.specs.declared.Undo.the-variants.{Up, Pop, SpFrom, Vpop, LoadLr, Nothing}

@@ -4,6 +4,7 @@ use Prim.Native.Nat.{ℕ, _%_, _≤_}
 use mathlib.Core.Path.{_≡_, refl, sym, subst}
 use mathlib.Core.List.{List, [], _∷_, _++_}
 use native.Mathlib.Omega.{arith}
+use borrow.Author.Tests.{eq-eqb}
 use Rattle.words.specs.Lent.{Lent, end, wordAt}
 use Rattle.words.specs.declared.Place.{Place}
 use Rattle.words.specs.declared.Place.the-variants.{Prologue, Body, Epilogue}
@@ -14,6 +15,7 @@ use Rattle.unwinding.specs.View.{Exit, View}
 use Rattle.unwinding.specs.Todo.{todo}
 use Rattle.unwinding.specs.declared.Scope.{Scope}
 use Rattle.codes.specs.Code.{size, codesAt}
+use Rattle.codes.specs.Condition.{executing}
 use Rattle.codes.specs.declared.Code.{Code}
 use Rattle.pdata.specs.declared.Entry.{Entry}
 use Rattle.forward.specs.Saving.{RX}
@@ -37,7 +39,7 @@ pub record Second (first second : List Code) : Type 0 where
   pub rX : (x : ℕ) → RX second x → RX first x
 
 pub record Ready (v : View Code) (entry : State) (o : ℕ) (now : State) (p : Place) (cs : List Code) : Type 0 where
-  pub todo : todo size v o ≡ ok (record { place = p; codes = cs })
+  pub todo : todo size executing v o ≡ ok (record { place = p; codes = cs })
   pub sound : AllSound cs
   pub inv : Inv (now .stack .base) (st entry) (flat cs) (seen (now .regs)) (wordAt (now .stack))
 
@@ -51,14 +53,14 @@ module _ (r : Entry) (s : Shape) (v : View Code) (entry : State) (w : Viewed siz
       let f = codes-fair _ _ _ (w .codes) in
       let e : total size cs ≡ o = sym (h .offset) in
       record {
-        todo = subst (λ n. todo size v n ≡ ok (record { place = Prologue; codes = cs })) e (todo-prologue size v (h .ahead) cs (h .codes) (f .1) (omega (arith, e, h .early)));
+        todo = subst (λ n. todo size executing v n ≡ ok (record { place = Prologue; codes = cs })) e (todo-prologue size executing v (h .ahead) cs (h .codes) (f .1) (omega (arith, e, h .early)));
         sound = sound-end (h .ahead) cs (subst AllSound (h .codes) (f .0));
         inv = inv-prologue al (h .done) (h .stays);
       }
 
   ready-body : {o : ℕ} {now : State} → InBody v entry o now → Ready v entry o now Body (codesOf v)
   ready-body {o} h = record {
-    todo = todo-body size v o (h .late) (h .outside);
+    todo = todo-body size executing v o (h .late) (h .outside);
     sound = codes-fair _ _ _ (w .codes) .0;
     inv = inv-body al (h .past .done) (h .past .stays) (h .past .keeps);
   }
@@ -77,8 +79,8 @@ module _ (r : Entry) (s : Shape) (v : View Code) (entry : State) (w : Viewed siz
       (λ x a. q .rX x (subst (λ y. RX y x) (sym (h .codes)) a)) (h .ran) refl
       (subst (λ y. Inv (k .base) (st entry) (flat y) (seen (h .start .regs)) (wordAt k)) (h .codes) i) in
       record {
-        todo = subst (λ n. todo size v n ≡ ok (record { place = Epilogue; codes = cs })) (sym (h .offset))
-            (todo-epilogue size (s .span) v (h .gone) cs (w .fit) (h .listed) (h .unconditional) (x .long) (fair .1) (h .codes) (h .inside));
+        todo = subst (λ n. todo size executing v n ≡ ok (record { place = Epilogue; codes = cs })) (sym (h .offset))
+            (todo-epilogue size executing (s .span) v (h .gone) cs (w .fit) (h .listed) (eq-eqb _ _ (h .unconditional)) (x .long) (fair .1) (h .codes) (h .inside));
         sound = sound-end (h .gone) cs sound;
         inv = subst (λ (y : Lent). Inv (y .base) (st entry) (flat cs) (seen (now .regs)) (wordAt y)) (sym stack) j;
       }

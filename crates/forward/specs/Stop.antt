@@ -9,9 +9,9 @@ use Rattle.words.specs.declared.Place.the-variants.{Prologue, Body, Epilogue}
 use Rattle.unwinding.specs.CodeList.{total}
 use Rattle.unwinding.specs.Shape.{Shape}
 use Rattle.unwinding.specs.View.{View, Exit}
-use Rattle.unwinding.specs.Todo.{always}
 use Rattle.unwinding.specs.declared.Scope.{Scope}
 use Rattle.codes.specs.Code.{size}
+use Rattle.codes.specs.Condition.{always}
 use Rattle.codes.specs.declared.Code.{Code}
 use Rattle.pdata.specs.declared.Entry.{Entry}
 use Rattle.forward.specs.Saving.{RX}

@@ -21,6 +21,7 @@ use Rattle.unwinding.specs.Todo.{Todo, todo}
 use Rattle.words.proofs.Answers.{bind-assoc}
 use Rattle.codes.specs.declared.Code.{Code}
 use Rattle.codes.specs.Code.{size, scan, codesAt}
+use Rattle.codes.specs.Condition.{executing}
 use Rattle.machine.specs.declared.Regs.{Regs}
 use Rattle.machine.specs.Step.{step}
 use Rattle.machine.specs.as_coded.Run.{runAt}
@@ -56,7 +57,7 @@ pub within-placed :
     → within k sh o g ≡ fromPlaced first k (sh .codes) g (covered (sh .handler) (spotIn sh o))
 unfolding within
 within-placed first k sh o g =
-    sym (bind-assoc (view size codesAt sh) (λ v. todo size v o) (undone k (sh .handler) g))
+    sym (bind-assoc (view size codesAt sh) (λ v. todo size executing v o) (undone k (sh .handler) g))
     ∙ ap (λ x. x >>= undone k (sh .handler) g) (spot-todo sh o)
     ∙ (let p = spotIn sh o in
     todo-ran first k (sh .codes) (sh .handler) g (p .place) (p .index) (p .verdict) (spot-ends (sh .codes) (sh .span) (sh .fragment) (sh .scopes) o))

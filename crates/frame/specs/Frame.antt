@@ -20,6 +20,7 @@ use Rattle.unwinding.specs.Shape.{Shape}
 use Rattle.unwinding.specs.View.{view}
 use Rattle.unwinding.specs.Todo.{todo}
 use Rattle.codes.specs.Code.{size, codesAt}
+use Rattle.codes.specs.Condition.{executing}
 use Rattle.machine.specs.declared.Regs.{Regs}
 use Rattle.machine.specs.Registers.{setPc}
 use Rattle.machine.specs.Step.{stands, step}
@@ -68,7 +69,7 @@ uncovered false g = refuse NoRecord
 unfoldable pub within : (stack : Lent) → Shape → (offset : ℕ) → Regs → Res Caller
 within k s o g = do
   v ← view size codesAt s
-  t ← todo size v o
+  t ← todo size executing v o
   h ← run (step k) (t .codes) g
   need (leb (g .sp) (h .sp)) SpFell
   ok (record { regs = returned h; place = t .place; handler = s .handler; codes = length (t .codes) })

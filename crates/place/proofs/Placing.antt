@@ -5,7 +5,7 @@ use mathlib.Core.Path.{_≡_, refl, sym, ap, ap₂, _∙_, subst}
 use mathlib.Core.List.{List, [], _∷_, map}
 use mathlib.Core.Bool.{Bool, true, false, _&&_, _||_}
 use mathlib.Core.Option.{Option, none, some}
-use lib.Dec.{leb, ltb, eqb}
+use lib.Dec.{leb, ltb}
 use native.Mathlib.Omega.{arith}
 use borrow.Author.Tests.{ltb-true, ltb-false, leb-true, leb-false}
 use Rattle.words.proofs.Tests.{both}
@@ -21,13 +21,14 @@ use Rattle.words.specs.Answer.{Res, ok, refuse, _>>=_, _>>_, need, either, mayb
 use Rattle.unwinding.specs.CodeList.{Codes, total, endOf}
 use Rattle.unwinding.specs.Shape.{Shape, startOf}
 use Rattle.unwinding.specs.View.{Exit, View, Stretch, stretch, fits, exits, view}
-use Rattle.unwinding.specs.Todo.{Todo, always, left, inExit, inExits, todo}
+use Rattle.unwinding.specs.Todo.{Todo, left, inExit, inExits, todo}
 use Rattle.unwinding.specs.declared.Scope.{Scope}
 use Rattle.unwinding.proofs.Lined.{lined, next, reachOf, fits-lined}
 use Rattle.codes.specs.declared.Code.{Code}
 use Rattle.codes.specs.declared.Skipped.{Skipped}
 use Rattle.codes.specs.declared.Skipped.the-variants.{At, Nowhere}
 use Rattle.codes.specs.Code.{size, scan, codesAt}
+use Rattle.codes.specs.Condition.{executing}
 use Rattle.codes.specs.Skip.{skipAt}
 use Rattle.codes.proofs.SkipEnds.{codesBehind, skip-ends, skip-ending}
 use Rattle.place.specs.as_coded.Look.{wayOf, inLine, hitOf, see, unseen, lookFrom, spot, noSpot, bySkip, skipped, ifAlways, inHit, inSeen, judged, prologueOf, spotOf}
@@ -195,16 +196,16 @@ hit-stays o v (w ∷ ws) = hit-stays o v ws
 
 abbrev todoHit : (codes : List ℕ) → (offset : ℕ) → (body : List Code) → Hit → Res (Todo Code)
 todoHit s o cs Miss = ok (record { place = Body; codes = cs })
-todoHit s o cs (In w) = inExit size (exitWay s w) o
+todoHit s o cs (In w) = inExit size executing (exitWay s w) o
 
-exits-hit : (s : List ℕ) (o : ℕ) (cs : List Code) (ws : List Way) → inExits size (map (exitWay s) ws) o cs ≡ todoHit s o cs (hitAll o Miss ws)
+exits-hit : (s : List ℕ) (o : ℕ) (cs : List Code) (ws : List Way) → inExits size executing (map (exitWay s) ws) o cs ≡ todoHit s o cs (hitAll o Miss ws)
 unfolding inExits hitAll
 exits-hit s o cs [] = refl
 exits-hit s o cs (w ∷ ws) = go (leb (w .start) o && ltb o (w .start + w .size)) (exits-hit s o cs ws)
   where
     go :
-        (x : Bool) → inExits size (map (exitWay s) ws) o cs ≡ todoHit s o cs (hitAll o Miss ws)
-        → (if x then inExit size (exitWay s w) o else inExits size (map (exitWay s) ws) o cs) ≡ todoHit s o cs (hitAll o (if x then In w else Miss) ws)
+        (x : Bool) → inExits size executing (map (exitWay s) ws) o cs ≡ todoHit s o cs (hitAll o Miss ws)
+        → (if x then inExit size executing (exitWay s w) o else inExits size executing (map (exitWay s) ws) o cs) ≡ todoHit s o cs (hitAll o (if x then In w else Miss) ws)
     go true ih = sym (ap (todoHit s o cs) (hit-stays o w ws))
     go false ih = ih
 
@@ -269,14 +270,14 @@ left-skipped s p i after n k h = rw (skip-ends s after n i k h) (go (skipAt s i 
     go Nowhere = refl
 
 exit-skipped :
-    (s : List ℕ) (o : ℕ) (w : Way) → Inside s o w → inExit size (exitWay s w) o ≡ todoOf s (ifAlways (eqb (w .condition) always) (skipAt s (w .index) (o - w .start)))
+    (s : List ℕ) (o : ℕ) (w : Way) → Inside s o w → inExit size executing (exitWay s w) o ≡ todoOf s (ifAlways (executing (w .condition)) (skipAt s (w .index) (o - w .start)))
 unfolding inExit
 exit-skipped s o w h =
     let e : endSize s (w .index) ≡ h .made .end = ap (λ y. orElse y 0) (h .made .ends) in
     let k : o - w .start + (w .start + w .size - o) ≡ total size (scan s (w .index) .list) + endSize s (w .index) =
     omega (arith, h .low, h .high, h .made .whole, e)
     in
-    rw (left-skipped s Epilogue (w .index) (endSize s (w .index)) (w .start + w .size - o) (o - w .start) k) (go (skipAt s (w .index) (o - w .start)) (eqb (w .condition) always))
+    rw (left-skipped s Epilogue (w .index) (endSize s (w .index)) (w .start + w .size - o) (o - w .start) k) (go (skipAt s (w .index) (o - w .start)) (executing (w .condition)))
   where
     go : (x : Skipped) (b : Bool) → (todoOf s (bySkip Epilogue x) >>= λ t. need b Conditional >> ok t) ≡ todoOf s (ifAlways b x)
     go (At i) true = refl
@@ -300,14 +301,14 @@ module _ (sh : Shape) (o : ℕ) where
   -- the place, once 6 and 7 are passed
   todo-place :
       (p : ℕ) (c : Codes Code) (ws : List Way) → c .list ≡ scan s (codeBytes 0) .list → AllMade s ws → (o < p → p ≡ total size (scan s (codeBytes 0) .list))
-      → todo size (record { codes = c; prologue = p; exits = map (exitWay s) ws }) o
+      → todo size executing (record { codes = c; prologue = p; exits = map (exitWay s) ws }) o
       ≡ todoOf s (if ltb o p then skipped s Prologue (codeBytes 0) (p - o) else inHit s o (hitAll o Miss ws))
   unfolding todo
   todo-place p c ws same made small = go (ltb o p) refl
     where
       go :
           (x : Bool) → ltb o p ≡ x
-          → (if x then left size Prologue 0 o (c .list) else inExits size (map (exitWay s) ws) o (c .list))
+          → (if x then left size Prologue 0 o (c .list) else inExits size executing (map (exitWay s) ws) o (c .list))
           ≡ todoOf s (if x then skipped s Prologue (codeBytes 0) (p - o) else inHit s o (hitAll o Miss ws))
       go true e =
           let l : o < p = ltb-true o p e in
@@ -320,7 +321,7 @@ module _ (sh : Shape) (o : ℕ) where
   small-prologue true c same l = absurd (let z : o < 0 = l in omega arith)
   small-prologue false c same l = ap (total size) same
 
-  pub spot-todo : (view size codesAt sh >>= λ v. todo size v o) ≡ todoOf s (spotOf s (sh .span) (sh .fragment) (sh .scopes) o)
+  pub spot-todo : (view size codesAt sh >>= λ v. todo size executing v o) ≡ todoOf s (spotOf s (sh .span) (sh .fragment) (sh .scopes) o)
   unfolding view spotOf
   spot-todo = go (scan s (codeBytes 0) .ending)
     where
@@ -329,7 +330,7 @@ module _ (sh : Shape) (o : ℕ) where
 
       last :
           (n : ℕ) (ws : List Way) → AllMade s ws → (b : Bool)
-          → ((need b BadLayout >> ok (record { codes = first n; prologue = prologueOf (sh .fragment) (first n); exits = map (exitWay s) ws })) >>= λ v. todo size v o)
+          → ((need b BadLayout >> ok (record { codes = first n; prologue = prologueOf (sh .fragment) (first n); exits = map (exitWay s) ws })) >>= λ v. todo size executing v o)
           ≡ todoOf s
           (if b then (if ltb o (prologueOf (sh .fragment) (first n)) then skipped s Prologue (codeBytes 0) (prologueOf (sh .fragment) (first n) - o) else inHit s o (hitAll o Miss ws)) else noSpot BadLayout)
       last n ws made true = todo-place (prologueOf (sh .fragment) (first n)) (first n) ws refl made (small-prologue (sh .fragment) (first n) refl)
@@ -337,7 +338,7 @@ module _ (sh : Shape) (o : ℕ) where
 
       all :
           (n : ℕ) (y : Res (List Way)) → ways s (sh .span) (sh .scopes) ≡ y
-          → (((y >>= λ ws. ok (map (exitWay s) ws)) >>= λ es. need (fits (sh .span) (prologueOf (sh .fragment) (first n)) es) BadLayout >> ok (record { codes = first n; prologue = prologueOf (sh .fragment) (first n); exits = es })) >>= λ v. todo size v o)
+          → (((y >>= λ ws. ok (map (exitWay s) ws)) >>= λ es. need (fits (sh .span) (prologueOf (sh .fragment) (first n)) es) BadLayout >> ok (record { codes = first n; prologue = prologueOf (sh .fragment) (first n); exits = es })) >>= λ v. todo size executing v o)
           ≡ todoOf s (inSeen s (prologueOf (sh .fragment) (first n)) o (either y Bad (λ ws. All (seenAll (sh .span) o (unseen (sh .span) (prologueOf (sh .fragment) (first n))) ws))))
       all n (refuse r) q = refl
       all n (ok ws) q =
@@ -347,7 +348,7 @@ module _ (sh : Shape) (o : ℕ) where
 
       go :
           (x : Res ℕ)
-          → (((x >>= λ n. ok (first n)) >>= λ c. exits size codesAt sh (sh .scopes) >>= λ es. need (fits (sh .span) (prologueOf (sh .fragment) c) es) BadLayout >> ok (record { codes = c; prologue = prologueOf (sh .fragment) c; exits = es })) >>= λ v. todo size v o)
+          → (((x >>= λ n. ok (first n)) >>= λ c. exits size codesAt sh (sh .scopes) >>= λ es. need (fits (sh .span) (prologueOf (sh .fragment) c) es) BadLayout >> ok (record { codes = c; prologue = prologueOf (sh .fragment) c; exits = es })) >>= λ v. todo size executing v o)
           ≡ todoOf s
           (either (x >>= λ n. ok (first n)) noSpot (λ c. inSeen s (prologueOf (sh .fragment) c) o (lookFrom s (sh .span) o (unseen (sh .span) (prologueOf (sh .fragment) c)) (sh .scopes))))
       go (refuse r) = refl
@@ -379,7 +380,7 @@ always-ended s false i k n h Nowhere e = tt
 hit-ended : (s : List ℕ) (o n : ℕ) → scan s (codeBytes 0) .ending ≡ ok n → (h : Hit) → HitInside s o h → Ended s (inHit s o h)
 hit-ended s o n e Miss i = (n, e)
 hit-ended s o n e (In w) i =
-    always-ended s (eqb (w .condition) always) (w .index) (o - w .start) (i .made .end) (i .made .ends) (skipAt s (w .index) (o - w .start)) refl
+    always-ended s (executing (w .condition)) (w .index) (o - w .start) (i .made .end) (i .made .ends) (skipAt s (w .index) (o - w .start)) refl
 
 pub spot-ends :
     (s : List ℕ) (span : ℕ) (f : Bool) (scopes : List Scope) (o : ℕ) → Ended s (spotOf s span f scopes o)

@@ -9,8 +9,8 @@ use Rattle.words.specs.Units.{halfwordBytes, codeBytes, codeWordBytes}
 use Rattle.words.specs.declared.CodeBytes.{CodeBytes}
 use Rattle.words.specs.Answer.{Res, ok, if_then_else_, _>>=_, _>>_}
 use Rattle.unwinding.specs.Shape.{Shape}
-use Rattle.unwinding.specs.Todo.{always}
 use Rattle.unwinding.specs.declared.Scope.{Scope}
+use Rattle.codes.specs.Condition.{always}
 use Rattle.unwinding.specs.declared.Start.the-variants.{Ending}
 use Rattle.packed.specs.Packed.{fields}
 use Rattle.packed_codes.specs.PackedCodes.{writeCodes}

@@ -8,13 +8,13 @@ use mathlib.Core.Logic.{_⊎_, inl, inr}
 use mathlib.Core.List.{List, [], _∷_, _++_, map}
 use lib.Dec.{leb, ltb}
 use native.Mathlib.Omega.{arith}
-use borrow.Author.Tests.{lt-ltb, le-ltb, le-leb, lt-leb, ltb-true, ltb-false, leb-true, eq-eqb}
+use borrow.Author.Tests.{lt-ltb, le-ltb, le-leb, lt-leb, ltb-true, ltb-false, leb-true}
 use Rattle.words.specs.declared.Place.{Place}
 use Rattle.words.specs.declared.Place.the-variants.{Prologue, Body, Epilogue}
 use Rattle.words.specs.Answer.{ok, if_then_else_}
 use Rattle.unwinding.specs.CodeList.{total}
 use Rattle.unwinding.specs.View.{Exit, View, Stretch, stretch, shared, inside, apart, allApart, ascending, fits}
-use Rattle.unwinding.specs.Todo.{always, left, inExit, inExits, todo}
+use Rattle.unwinding.specs.Todo.{left, inExit, inExits, todo}
 use Rattle.unwinding.specs.Listed.{Of, here, later, InNone}
 use Rattle.unwinding.specs.declared.Scope.{Scope}
 use Rattle.unwinding.proofs.Ends.{total-append, Sized, endOf-boundary}
@@ -55,20 +55,21 @@ module _ {C : Type 0} (size : C → ℕ) where
   unfolding left
   left-boundary p after n skipped done z h = rw (endOf-boundary size after n skipped done z h) refl
 
+module _ {C : Type 0} (size : C → ℕ) (may : ℕ → Bool) where
   -- ---- in the prologue
   pub todo-prologue :
       (v : View C) (ahead done : List C) → v .codes .list ≡ ahead ++ done → Sized size (v .codes .list) → total size done < v .prologue
-      → todo size v (total size done) ≡ ok (record { place = Prologue; codes = done })
+      → todo size may v (total size done) ≡ ok (record { place = Prologue; codes = done })
   unfolding todo
   todo-prologue v ahead done e p h =
       let q : total size done + 0 ≡ total size done = omega arith in
-      rw (lt-ltb _ _ h, e) (left-boundary Prologue 0 (total size done) ahead done (subst (Sized size) e p) q)
+      rw (lt-ltb _ _ h, e) (left-boundary size Prologue 0 (total size done) ahead done (subst (Sized size) e p) q)
 
   -- ---- in no epilogue
-  exits-none : (es : List (Exit C)) (o : ℕ) (cs : List C) → InNone o es → inExits size es o cs ≡ ok (record { place = Body; codes = cs })
+  exits-none : (es : List (Exit C)) (o : ℕ) (cs : List C) → InNone o es → inExits size may es o cs ≡ ok (record { place = Body; codes = cs })
   unfolding inExits
   exits-none [] o cs h = refl
-  exits-none (e ∷ es) o cs h = ap (λ t. if t then inExit size e o else inExits size es o cs) (out (h .0)) ∙ exits-none es o cs (h .1)
+  exits-none (e ∷ es) o cs h = ap (λ t. if t then inExit size may e o else inExits size may es o cs) (out (h .0)) ∙ exits-none es o cs (h .1)
     where
       out : (o < e .start) ⊎ (e .start + e .size ≤ o) → (leb (e .start) o && ltb o (e .start + e .size)) ≡ false
       out (inl l) = rw (lt-leb _ _ l) refl
@@ -78,25 +79,25 @@ module _ {C : Type 0} (size : C → ℕ) where
           go true = le-ltb _ _ l
           go false = refl
 
-  pub todo-body : (v : View C) (o : ℕ) → v .prologue ≤ o → InNone o (v .exits) → todo size v o ≡ ok (record { place = Body; codes = v .codes .list })
+  pub todo-body : (v : View C) (o : ℕ) → v .prologue ≤ o → InNone o (v .exits) → todo size may v o ≡ ok (record { place = Body; codes = v .codes .list })
   unfolding todo
   todo-body v o h n = rw (le-ltb _ _ h) (exits-none (v .exits) o (v .codes .list) n)
 
   -- ---- in an epilogue
   pub exit-boundary :
-      (e : Exit C) (o : ℕ) (done rest : List C) → e .codes .list ≡ done ++ rest → Sized size (e .codes .list) → e .condition ≡ always
+      (e : Exit C) (o : ℕ) (done rest : List C) → e .codes .list ≡ done ++ rest → Sized size (e .codes .list) → may (e .condition) ≡ true
       → total size rest + e .codes .endSize ≡ e .start + e .size - o
-      → inExit size e o ≡ ok (record { place = Epilogue; codes = rest })
+      → inExit size may e o ≡ ok (record { place = Epilogue; codes = rest })
   unfolding inExit
   exit-boundary e o done rest split z c h =
-      rw (split, left-boundary Epilogue (e .codes .endSize) (e .start + e .size - o) done rest (subst (Sized size) split z) h, eq-eqb (e .condition) always c) refl
+      rw (split, left-boundary size Epilogue (e .codes .endSize) (e .start + e .size - o) done rest (subst (Sized size) split z) h, c) refl
 
   -- of epilogues that are apart, the one that the offset falls into
   found :
       {sc : Scope} {ex : Exit C} {scs : List Scope} {exs : List (Exit C)} (o : ℕ) (cs : List C) → Of sc ex scs exs → allApart (map stretch exs) ≡ true
       → ex .start ≤ o
       → o < ex .start + ex .size
-      → inExits size exs o cs ≡ inExit size ex o
+      → inExits size may exs o cs ≡ inExit size may ex o
   unfolding inExits
   found {ex} o cs (here {exs = exs}) h p q = rw (le-leb _ _ p, lt-ltb _ _ q) refl
   found {ex} o cs (later {b = b} {exs = exs} m) h p q =
@@ -104,8 +105,8 @@ module _ {C : Type 0} (size : C → ℕ) where
       go (leb (b .start) o) (ltb o (b .start + b .size)) refl refl (apart-of (stretch b) m (w .0)) (found o cs m (w .1) p q)
     where
       go :
-          (s t : Bool) → leb (b .start) o ≡ s → ltb o (b .start + b .size) ≡ t → not (shared (stretch b) (stretch ex)) ≡ true → inExits size exs o cs ≡ inExit size ex o
-          → (if s && t then inExit size b o else inExits size exs o cs) ≡ inExit size ex o
+          (s t : Bool) → leb (b .start) o ≡ s → ltb o (b .start + b .size) ≡ t → not (shared (stretch b) (stretch ex)) ≡ true → inExits size may exs o cs ≡ inExit size may ex o
+          → (if s && t then inExit size may b o else inExits size may exs o cs) ≡ inExit size may ex o
       go true true e f n ih = absurd (apart-not (stretch b) (stretch ex) o n (leb-true _ _ e) (ltb-true _ _ f) p q)
       go true false e f n ih = ih
       go false t e f n ih = ih
@@ -113,12 +114,12 @@ module _ {C : Type 0} (size : C → ℕ) where
   pub todo-epilogue :
       {sc : Scope} {ex : Exit C} {scs : List Scope} (span : ℕ) (v : View C) (done rest : List C) → fits span (v .prologue) (v .exits) ≡ true
       → Of sc ex scs (v .exits)
-      → ex .condition ≡ always
+      → may (ex .condition) ≡ true
       → ex .size ≡ total size (ex .codes .list) + ex .codes .endSize
       → Sized size (ex .codes .list)
       → ex .codes .list ≡ done ++ rest
       → total size done < ex .size
-      → todo size v (ex .start + total size done) ≡ ok (record { place = Epilogue; codes = rest })
+      → todo size may v (ex .start + total size done) ≡ ok (record { place = Epilogue; codes = rest })
   unfolding todo
   todo-epilogue {ex} span v done rest f m c z p e h =
       let o : ℕ = ex .start + total size done in

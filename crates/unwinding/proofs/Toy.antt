@@ -1,12 +1,12 @@
 -- A machine of the simplest kind, to see the rules of place by computation: a code is a byte and is the size of its instruction, the list
--- from an index is all that follows, and its end code stands for an instruction of 2 bytes.
+-- from an index is all that follows, and its end code stands for an instruction of 2 bytes. Epilogues of condition 1 execute.
 -- Assumes nothing.
 use Prim.Native.Nat.{ℕ}
 use mathlib.Core.Path.{_≡_, refl}
 use mathlib.Core.List.{List, _∷_, []}
 use mathlib.Core.Bool.{Bool, true, false}
 use lib.ListN.{drop, length}
-use lib.Dec.{leb}
+use lib.Dec.{leb, eqb}
 use Rattle.words.specs.Units.{codeBytes}
 use Rattle.words.specs.declared.CodeBytes.{CodeBytes}
 use Rattle.words.specs.declared.Place.{Place}
@@ -16,7 +16,7 @@ use Rattle.words.specs.Answer.{Res, ok, refuse, _>>=_, if_then_else_}
 use Rattle.unwinding.specs.CodeList.{Codes}
 use Rattle.unwinding.specs.Shape.{Shape}
 use Rattle.unwinding.specs.View.{view}
-use Rattle.unwinding.specs.Todo.{Todo, always, todo}
+use Rattle.unwinding.specs.Todo.{Todo, todo}
 use Rattle.unwinding.specs.declared.Scope.{Scope}
 use Rattle.unwinding.specs.declared.Start.{Start}
 use Rattle.unwinding.specs.declared.Start.the-variants.{From, Ending}
@@ -31,8 +31,14 @@ scope a c i = record { start = a; condition = c; index = codeBytes i }
 abbrev shape : (fragment : Bool) → List Scope → Shape
 shape f ss = record { span = 40; codes = 2 ∷ 4 ∷ 2 ∷ []; fragment = f; scopes = ss; handler = 0 }
 
+abbrev always : ℕ
+always = 1
+
+abbrev may : ℕ → Bool
+may c = eqb c always
+
 abbrev at : Shape → ℕ → Res (Todo ℕ)
-at s o = view (λ c. c) read s >>= λ v. todo (λ c. c) v o
+at s o = view (λ c. c) read s >>= λ v. todo (λ c. c) may v o
 
 abbrev says : Place → List ℕ → Res (Todo ℕ)
 says p l = ok (record { place = p; codes = l })

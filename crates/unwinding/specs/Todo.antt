@@ -3,8 +3,8 @@
 -- Epilogue: from its index, skip codes of instructions done, run the rest."
 use Prim.Native.Nat.{ℕ, _+_, _-_}
 use mathlib.Core.List.{List, [], _∷_}
-use mathlib.Core.Bool.{_&&_}
-use lib.Dec.{leb, ltb, eqb}
+use mathlib.Core.Bool.{Bool, _&&_}
+use lib.Dec.{leb, ltb}
 use Rattle.words.specs.declared.Place.{Place}
 use Rattle.words.specs.declared.Place.the-variants.{Prologue, Body, Epilogue}
 use Rattle.words.specs.declared.Refusal.the-variants.{InsideInstruction, Conditional}
@@ -16,20 +16,18 @@ pub record Todo (C : Type 0) : Type 0 where
   pub place : Place
   pub codes : List C
 
--- the condition "always"
-abbrev pub always : ℕ
-always = 0xE
-
 module _ {C : Type 0} (size : C → ℕ) where
   -- the codes whose instructions, with `after` bytes behind them, take n bytes; 9 where n ends inside an instruction
   unfoldable pub left : Place → (after n : ℕ) → List C → Res (Todo C)
   left p after n cs = maybe (endOf size after n cs) (refuse InsideInstruction) (λ l. ok (record { place = p; codes = l }))
 
-  -- inside an epilogue, which must be unconditional: 9 before 10
+-- `may`: whether an epilogue of a condition may be executing; 10 if not
+module _ {C : Type 0} (size : C → ℕ) (may : (condition : ℕ) → Bool) where
+  -- inside an epilogue: 9 before 10
   unfoldable pub inExit : Exit C → (offset : ℕ) → Res (Todo C)
   inExit e o = do
-    t ← left Epilogue (e .codes .endSize) (e .start + e .size - o) (e .codes .list)
-    need (eqb (e .condition) always) Conditional
+    t ← left size Epilogue (e .codes .endSize) (e .start + e .size - o) (e .codes .list)
+    need (may (e .condition)) Conditional
     ok t
 
   -- in the epilogue that the offset falls into, else in the body
@@ -41,4 +39,4 @@ module _ {C : Type 0} (size : C → ℕ) where
 
   unfoldable pub todo : View C → (offset : ℕ) → Res (Todo C)
   todo v o =
-      if ltb o (v .prologue) then left Prologue 0 o (v .codes .list) else inExits (v .exits) o (v .codes .list)
+      if ltb o (v .prologue) then left size Prologue 0 o (v .codes .list) else inExits (v .exits) o (v .codes .list)

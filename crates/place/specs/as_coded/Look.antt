@@ -4,7 +4,7 @@
 use Prim.Native.Nat.{ℕ, _+_, _-_}
 use mathlib.Core.List.{List, [], _∷_}
 use mathlib.Core.Bool.{Bool, true, false, _&&_, _||_, not}
-use lib.Dec.{leb, ltb, eqb}
+use lib.Dec.{leb, ltb}
 use Rattle.words.specs.declared.CodeBytes.{CodeBytes}
 use Rattle.words.specs.declared.Place.{Place}
 use Rattle.words.specs.declared.Place.the-variants.{Leaf, Prologue, Body, Epilogue}
@@ -16,12 +16,12 @@ use Rattle.words.specs.Units.{codeBytes}
 use Rattle.words.specs.Answer.{Res, either, if_then_else_}
 use Rattle.unwinding.specs.CodeList.{Codes, total}
 use Rattle.unwinding.specs.Shape.{startOf}
-use Rattle.unwinding.specs.Todo.{always}
 use Rattle.unwinding.specs.declared.Scope.{Scope}
 use Rattle.codes.specs.declared.Code.{Code}
 use Rattle.codes.specs.declared.Skipped.{Skipped}
 use Rattle.codes.specs.declared.Skipped.the-variants.{At, Nowhere}
 use Rattle.codes.specs.Code.{size, codesAt}
+use Rattle.codes.specs.Condition.{executing}
 use Rattle.codes.specs.Skip.{skipAt}
 use Rattle.place.specs.declared.Way.{Way}
 use Rattle.place.specs.declared.WayOf.{WayOf}
@@ -99,7 +99,7 @@ ifAlways b Nowhere = noSpot InsideInstruction
 
 abbrev pub inHit : (codes : List ℕ) → (offset : ℕ) → Hit → Spot
 inHit s o Miss = spot Body (codeBytes 0)
-inHit s o (In w) = ifAlways (eqb (w .condition) always) (skipAt s (w .index) (o - w .start))
+inHit s o (In w) = ifAlways (executing (w .condition)) (skipAt s (w .index) (o - w .start))
 
 -- 7, and then the place
 abbrev pub inSeen : (codes : List ℕ) → (prologue offset : ℕ) → Looked → Spot
