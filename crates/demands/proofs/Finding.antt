@@ -16,7 +16,7 @@ use Rattle.words.specs.declared.Refusal.the-variants.{UnfitInput, PcBelowBase, 
 use Rattle.words.proofs.Tests.{both}
 use Rattle.words.specs.Answer.{Res, ok, _>>_, need, if_then_else_, maybe}
 use Rattle.unwinding.specs.View.{ascending}
-use Rattle.pdata.specs.Pdata.{entriesFrom, entries, entryAt, starts, lastUpTo, find, found}
+use Rattle.pdata.specs.Pdata.{entriesFrom, entries, entryAt, starts, lastUpTo, find, found, findRva}
 use Rattle.pdata.specs.declared.Entry.{Entry}
 use Rattle.pdata.specs.declared.Found.{Found}
 use Rattle.pdata.specs.declared.Found.the-variants.{Record, Nothing, Refused}
@@ -114,12 +114,13 @@ module _ (image : ℕ) (s : List ℕ) (pc : ℕ) where
   }
 
   lawful : Lawful (found (find image s pc))
-  unfolding find
+  unfolding find findRva
   lawful =
       after (eqb (length s % 8) 0) UnfitInput _
       (λ w. after (leb image (even pc)) PcBelowBase _
-      (λ h. after (ascending (starts s)) StartsNotAscending _
-      (λ up. answered (leb-true image (even pc) h) (lastUpTo (entries s) (even pc - image)) (seen s (even pc - image) (length s / 8) 0 up))))
+      (λ h. after (eqb (length s % 8) 0) UnfitInput _
+      (λ _. after (ascending (starts s)) StartsNotAscending _
+      (λ up. answered (leb-true image (even pc) h) (lastUpTo (entries s) (even pc - image)) (seen s (even pc - image) (length s / 8) 0 up)))))
 
 pub find-laws : FindLaws ours
 find-laws = record { found = λ image s pc e q. subst (Lawful image s pc) q (lawful image s pc); nothing = λ image s pc q. subst (Lawful image s pc) q (lawful image s pc) }

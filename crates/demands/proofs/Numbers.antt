@@ -4,7 +4,7 @@
 use Prim.Native.Nat.{ℕ, zero, suc, _+_, _-_, _%_, _≤_}
 use mathlib.Core.Path.{_≡_, refl, ap, subst}
 use mathlib.Core.Logic.{_⊎_, inl, inr}
-use mathlib.Core.List.{List, [], _∷_, map}
+use mathlib.Core.List.{List, [], _∷_}
 use mathlib.Core.Bool.{Bool, true, false, _&&_, _||_, not}
 use mathlib.Core.Option.{Option, none, some}
 use lib.ListN.{length, replicate}
@@ -40,7 +40,7 @@ use Rattle.pdata.specs.declared.Found.the-variants as Found
 use Rattle.packed.specs.declared.Packed.{Packed}
 use Rattle.packed.specs.declared.WordOf.{WordOf}
 use Rattle.packed_codes.specs.declared.CodesOf.{CodesOf}
-use Rattle.pdata.specs.Pdata.{entries, find, found}
+use Rattle.pdata.specs.Pdata.{find, found, findRva, starts}
 use Rattle.packed.specs.Packed.{fields, wordOf, fieldsFit, allowed, writeWord, wordAnswer}
 use Rattle.packed_codes.specs.PackedCodes.{written, writeCodes, codesAnswer}
 use Rattle.xdata.specs.Xdata.{fitXdata, recordBytes, scopeCount, shortHead, longHead, headAt, xdataSize, sizeAnswer}
@@ -90,10 +90,11 @@ module _ (P : ℕ → Type 0) where
 
   -- the operations on the tables
   only-find : P 1 → P 2 → P 3 → (image : ℕ) (pdata : List ℕ) (pc : ℕ) → Only P (find image pdata pc)
-  unfolding find
+  unfolding find findRva
   only-find p1 p2 p3 i s pc =
       needed (eqb (length s % 8) 0) UnfitInput _ p1
-      (needed (leb i (even pc)) PcBelowBase _ p2 (needed (ascending (map (λ e. e .start) (entries s))) StartsNotAscending _ p3 (given _)))
+      (needed (leb i (even pc)) PcBelowBase _ p2
+      (needed (eqb (length s % 8) 0) UnfitInput _ p1 (needed (ascending (starts s)) StartsNotAscending _ p3 (given _))))
 
   only-long : P 4 → P 5 → (x : Lent) (a w : ℕ) → Only P (longHead x a w)
   unfolding longHead

@@ -117,13 +117,13 @@ module _ (image : ℕ) (s : List ℕ) (pc : ℕ) where
 
   pub find-unsorted :
       eqb (length s % 8) 0 ≡ true → image ≤ even pc → ascending (starts s) ≡ false → find image s pc ≡ refuse StartsNotAscending
-  unfolding find
+  unfolding find findRva
   find-unsorted h b up = rw (h, le-leb image (even pc) b, up) refl
 
   pub find-sorted :
       eqb (length s % 8) 0 ≡ true → image ≤ even pc → ascending (starts s) ≡ true
       → find image s pc ≡ ok (lastUpTo (entries s) (even pc - image))
-  unfolding find
+  unfolding find findRva
   find-sorted h b up = rw (h, le-leb image (even pc) b, up) refl
 
 -- the same by an RVA

@@ -35,16 +35,9 @@ unfoldable pub lastUpTo : List Entry → (rva : ℕ) → Option Entry
 lastUpTo [] a = none
 lastUpTo (e ∷ es) a = maybe (lastUpTo es a) (if leb (e .start) a then some e else none) some
 
--- finding the record for a pc: 1 for the length, 2, 3, and then the record or none
-unfoldable pub find : (image : ℕ) → (pdata : List ℕ) → (pc : ℕ) → Res (Option Entry)
-find image s pc = do
-  need (eqb (length s % 8) 0) UnfitInput
-  need (leb image (even pc)) PcBelowBase
-  need (ascending (starts s)) StartsNotAscending
-  ok (lastUpTo (entries s) (even pc - image))
-
-abbrev pub found : Res (Option Entry) → Found
-found r = either r Refused (λ e. maybe e Nothing Record)
+-- what finding asks of the table alone, and so once for a walk: 1 for its length and 3
+abbrev pub checked : List ℕ → Checked
+checked s = record { fit = eqb (length s % 8) 0; sorted = ascending (starts s) }
 
 -- finding by an RVA: 1 for the length, 3, and then the record or none
 unfoldable pub findRva : (pdata : List ℕ) → (rva : ℕ) → Res (Option Entry)
@@ -53,6 +46,12 @@ findRva s a = do
   need (ascending (starts s)) StartsNotAscending
   ok (lastUpTo (entries s) a)
 
--- what finding asks of the table alone, and so once for a walk: 1 for its length and 3
-abbrev pub checked : List ℕ → Checked
-checked s = record { fit = eqb (length s % 8) 0; sorted = ascending (starts s) }
+-- finding the record for a pc: 1 for the length, 2, and then by its RVA
+unfoldable pub find : (image : ℕ) → (pdata : List ℕ) → (pc : ℕ) → Res (Option Entry)
+find image s pc = do
+  need (checked s .fit) UnfitInput
+  need (leb image (even pc)) PcBelowBase
+  findRva s (even pc - image)
+
+abbrev pub found : Res (Option Entry) → Found
+found r = either r Refused (λ e. maybe e Nothing Record)
