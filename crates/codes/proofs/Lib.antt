@@ -7,5 +7,4 @@ pub mod Taking
 pub mod Scanning
 pub mod Sizes
 pub mod Passing
-pub mod Skipping
 pub mod SkipEnds

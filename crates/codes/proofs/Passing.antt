@@ -12,15 +12,16 @@ use Rattle.words.specs.declared.CodeBytes.{CodeBytes}
 use Rattle.words.specs.Answer.{Res, ok, refuse}
 use Rattle.unwinding.specs.CodeList.{total}
 use Rattle.unwinding.proofs.Ends.{total-empty, total-step}
-use Rattle.codes.specs.Code.{Scan, takeAt, scan}
+use Rattle.unwinding.specs.Taking.{Scan}
+use Rattle.codes.specs.Code.{takeAt, seen, scan}
 use Rattle.codes.specs.Reading.{past, halves, scanned, turn, more}
 use Rattle.codes.specs.declared.Code.{Code}
 use Rattle.codes.specs.declared.Taken.{Taken}
 use Rattle.codes.specs.declared.Taken.the-variants.{One, Last, Bad}
 use Rattle.codes.specs.declared.Scanned.{Scanned}
 use Rattle.codes.specs.declared.Scanned.the-variants.{Ends, Refused}
-use Rattle.codes.proofs.Scanning.{take-next, scan-one, scan-last, scan-bad}
-use Rattle.codes.proofs.Sizes.{take-size}
+use Rattle.unwinding.proofs.Scanning.{take-next}
+use Rattle.codes.proofs.Scanning.{takes, take-size, scan-by}
 
 -- with h halfwords before it
 abbrev pub plus : ℕ → Scanned → Scanned
@@ -36,7 +37,7 @@ plus-plus a b (Ends k e) = ap (λ n. Ends n e) (omega arith)
 plus-plus a b (Refused r) = refl
 
 -- one code, and then the rest
-scanned-one : (c : Code) (x : Scan) → scanned (record { list = c ∷ x .list; ending = x .ending }) ≡ plus (halves c) (scanned x)
+scanned-one : (c : Code) (x : Scan Code) → scanned (record { list = c ∷ x .list; ending = x .ending }) ≡ plus (halves c) (scanned x)
 scanned-one c x = go (x .ending)
   where
     go : (e : Res ℕ) → scanned (record { list = c ∷ x .list; ending = e }) ≡ plus (halves c) (scanned (record { list = x .list; ending = e }))
@@ -77,13 +78,13 @@ module _ {m : List ℕ} {i : CodeBytes} (h : Here m i) where
     where
       go : (t : Taken) → there ≡ t → turn (Ends (h .sum) 0) t .on ≡ true → Onward t
       go (One c next) e o =
-          let n = take-next m (h .at .0) c next e in
-          let on : scanned (scan m (h .at)) ≡ plus (halves c) (scanned (scan m next)) = ap scanned (scan-one m (h .at .0) c next e) ∙ scanned-one c (scan m next) in
+          let n = take-next takes m (h .at .0) (ap seen e) in
+          let on : scanned (scan m (h .at)) ≡ plus (halves c) (scanned (scan m next)) = ap scanned (scan-by m (h .at) e) ∙ scanned-one c (scan m next) in
           record {
-            far = n .0;
-            near = n .1;
+            far = n .far;
+            near = n .near;
             kept = plus-plus (h .sum) (halves c) (scanned (scan m next)) ∙ ap (plus (h .sum)) (sym on);
-            light = take-size m (h .at .0) c next e .1;
+            light = take-size m (h .at .0) (ap seen e);
           }
       go (Last n) e o = absurd (false≢true o)
       go (Bad j) e o = absurd (false≢true o)
@@ -96,8 +97,8 @@ module _ {m : List ℕ} {i : CodeBytes} (h : Here m i) where
       go (One c next) e o = absurd (false≢true (sym o))
       go (Last n) e o =
           let k : h .sum ≡ h .sum + total halves [] = omega (arith, total-empty halves) in
-          ap₂ (λ x y. Ends x y) k (sym (mul-div-cancel-left (n .0) (lit< tt))) ∙ sym (ap (λ x. plus (h .sum) (scanned x)) (scan-last m (h .at .0) n e))
-      go (Bad j) e o = sym (ap (λ x. plus (h .sum) (scanned x)) (scan-bad m (h .at .0) j e))
+          ap₂ (λ x y. Ends x y) k (sym (mul-div-cancel-left (n .0) (lit< tt))) ∙ sym (ap (λ x. plus (h .sum) (scanned x)) (scan-by m (h .at) e))
+      go (Bad j) e o = sym (ap (λ x. plus (h .sum) (scanned x)) (scan-by m (h .at) e))
 
   -- a slice has fewer than 2 ^ 63 bytes
   module _ (short : length m < 2 ^ 63) where
@@ -107,8 +108,8 @@ module _ {m : List ℕ} {i : CodeBytes} (h : Here m i) where
       where
         go : (t : Taken) → there ≡ t → h .sum + more t < 2 ^ 64
         go (One c next) e =
-            let n = take-next m (h .at .0) c next e in
-            omega (arith, n .0, n .1, take-size m (h .at .0) c next e .1, h .few)
+            let n = take-next takes m (h .at .0) (ap seen e) in
+            omega (arith, n .far, n .near, take-size m (h .at .0) (ap seen e), h .few)
         go (Last n) e = omega (arith, h .fits)
         go (Bad j) e = omega (arith, h .fits)
 

@@ -1,13 +1,14 @@
 -- Codes in code bytes: one code, and the list from an index on up to an end code, or refusal 6.
-use Prim.Native.Nat.{ℕ, zero, suc, _+_, _-_, _*_}
+use Prim.Native.Nat.{ℕ, _+_, _*_}
 use mathlib.Core.List.{List, [], _∷_}
 use lib.ListN.{length, take, drop}
 use lib.Dec.{leb}
 use Rattle.words.specs.declared.CodeBytes.{CodeBytes}
-use Rattle.words.specs.declared.Refusal.the-variants.{BadCodes}
 use Rattle.words.specs.Units.{codeBytes, halfwordBytes}
-use Rattle.words.specs.Answer.{Res, ok, refuse, _>>=_, if_then_else_}
+use Rattle.words.specs.Answer.{Res, if_then_else_}
 use Rattle.unwinding.specs.CodeList.{Codes}
+use Rattle.unwinding.specs.Taking as Any
+use Rattle.unwinding.specs.Taking.{Taken as AnyTaken, one, last, bad, Scan}
 use Rattle.codes.specs.Table.{Row, rowOf}
 use Rattle.codes.specs.declared.Code.{Code}
 use Rattle.codes.specs.declared.Meaning.{Meaning}
@@ -43,27 +44,21 @@ takeFrom at (b ∷ s) =
 abbrev pub takeAt : List ℕ → CodeBytes → Taken
 takeAt s i = takeFrom (i .0) (drop (i .0) s)
 
--- the codes before an end code or before what is no code; the end's size, or refusal 6
-pub record Scan : Type 0 where
-  pub list : List Code
-  pub ending : Res ℕ
+-- the same on any machine's terms: an end code's size in bytes
+abbrev pub seen : Taken → AnyTaken Code
+seen (One c next) = one c next
+seen (Last n) = last (halfwordBytes n)
+seen (Bad i) = bad i
 
-abbrev pub bad : CodeBytes → Scan
-bad i = record { list = []; ending = refuse (BadCodes i) }
+abbrev pub taking : (at : ℕ) → (left : List ℕ) → AnyTaken Code
+taking at left = seen (takeFrom at left)
 
-abbrev pub follow : Taken → Scan → Scan
-follow (One c next) rest = record { list = c ∷ rest .list; ending = rest .ending }
-follow (Last n) rest = record { list = []; ending = ok (halfwordBytes n) }
-follow (Bad i) rest = bad i
+abbrev pub bytesOf : (first : ℕ) → ℕ
+bytesOf b = rowOf b .bytes
 
--- after `skip` bytes of those that are left: one code, and then the rest. An index past the bytes is what refusal 6 holds
-unfoldable pub scanFrom : (at : ℕ) → (left : List ℕ) → (skip : ℕ) → Scan
-scanFrom at [] skip = bad (codeBytes (at + skip))
-scanFrom at (b ∷ s) (suc k) = scanFrom (at + 1) s k
-scanFrom at (b ∷ s) zero = follow (takeFrom at (b ∷ s)) (scanFrom (at + 1) s (rowOf b .bytes - 1))
-
-abbrev pub scan : List ℕ → CodeBytes → Scan
-scan s i = scanFrom 0 s (i .0)
+-- the code list from an index on
+abbrev pub scan : List ℕ → CodeBytes → Scan Code
+scan s i = Any.scan taking bytesOf s i
 
 abbrev pub codesAt : List ℕ → CodeBytes → Res (Codes Code)
-codesAt s i = scan s i .ending >>= λ n. ok (record { list = scan s i .list; endSize = n })
+codesAt s i = Any.codesAt taking bytesOf s i

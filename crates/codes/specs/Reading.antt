@@ -5,7 +5,7 @@ use Rattle.words.specs.declared.CodeBytes.{CodeBytes}
 use Rattle.words.specs.declared.Refusal.the-variants.{BadCodes}
 use Rattle.words.specs.Answer.{either}
 use Rattle.unwinding.specs.CodeList.{total}
-use Rattle.codes.specs.Code.{Scan}
+use Rattle.unwinding.specs.Taking.{Scan}
 use Rattle.codes.specs.declared.Code.{Code}
 use Rattle.codes.specs.declared.Taken.{Taken}
 use Rattle.codes.specs.declared.Taken.the-variants.{One, Last, Bad}
@@ -28,7 +28,7 @@ abbrev pub halves : Code → ℕ
 halves c = c .size .0
 
 -- the halfwords of a code list's instructions and of its end code's, or refusal 6. A list of any length has fewer than 2 ^ 64
-abbrev pub scanned : Scan → Scanned
+abbrev pub scanned : Scan Code → Scanned
 scanned s = either (s .ending) Refused (λ n. Ends (total halves (s .list)) (n / 2))
 
 -- a pass so far, and one thing taken more: a code's size is added, and anything else ends the pass

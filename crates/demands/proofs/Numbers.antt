@@ -25,12 +25,11 @@ use Rattle.unwinding.specs.Shape.{Shape}
 use Rattle.unwinding.specs.View.{Exit, View, ascending, fits, exits, view}
 use Rattle.unwinding.specs.Todo.{Todo, left, inExit, inExits, todo}
 use Rattle.unwinding.specs.declared.Scope.{Scope}
-use Rattle.codes.specs.Code.{size, Scan, takeFrom, follow, scanFrom, scan, codesAt}
+use Rattle.unwinding.proofs.Scanning.{by-scan}
+use Rattle.codes.specs.Code.{size, scan, codesAt}
+use Rattle.codes.proofs.Scanning.{takes}
 use Rattle.codes.specs.Condition.{executing}
-use Rattle.codes.specs.Table.{rowOf}
 use Rattle.codes.specs.declared.Code.{Code}
-use Rattle.codes.specs.declared.Taken.{Taken}
-use Rattle.codes.specs.declared.Taken.the-variants.{One, Last, Bad}
 use Rattle.codes.specs.declared.Undo.{Undo}
 use Rattle.codes.specs.declared.Undo.the-variants.{Up, Pop, SpFrom, Vpop, LoadLr, Nothing}
 use Rattle.machine.specs.declared.Regs.{Regs}
@@ -131,19 +130,11 @@ module _ (P : ℕ → Type 0) (all : (k : ℕ) → k ≤ 11 → P k) where
       (bound P (headAt x (e .word)) _ (only-head P (all 4 (omega arith)) (all 5 (omega arith)) x (e .word)) (λ h. bound P (scopesAt x (e .word + h .bytes) (scopeCount h)) _ (up-scopes x (e .word + h .bytes) (scopeCount h)) (λ l. given P _)))
       (bound P (writeCodes (e .word)) _ (only-codes P (all 4 (omega arith)) (e .word)) (λ c. given P _))
 
-  up-follow : (t : Taken) (rest : Scan) → Only P (rest .ending) → Only P (follow t rest .ending)
-  up-follow (One c i) rest h = h
-  up-follow (Last k) rest h = given P _
-  up-follow (Bad i) rest h = refused P (BadCodes i) (all 6 (omega arith))
-
-  up-scan : (at : ℕ) (s : List ℕ) (skip : ℕ) → Only P (scanFrom at s skip .ending)
-  unfolding scanFrom
-  up-scan at [] skip = refused P (BadCodes _) (all 6 (omega arith))
-  up-scan at (b ∷ s) (suc k) = up-scan (at + 1) s k
-  up-scan at (b ∷ s) zero = up-follow (takeFrom at (b ∷ s)) (scanFrom (at + 1) s (rowOf b .bytes - 1)) (up-scan (at + 1) s (rowOf b .bytes - 1))
+  up-scan : (s : List ℕ) (i : CodeBytes) → Only P (scan s i .ending)
+  up-scan s i = by-scan takes s (λ j x. Only P (x .ending)) (λ j c next r e h. h) (λ j n e. given P n) (λ j k e. refused P (BadCodes k) (all 6 (omega arith))) i
 
   up-codes : (s : List ℕ) (i : CodeBytes) → Only P (codesAt s i)
-  up-codes s i = bound P (scan s i .ending) _ (up-scan 0 s (i .0)) (λ k. given P _)
+  up-codes s i = bound P (scan s i .ending) _ (up-scan s i) (λ k. given P _)
 
   up-exits : (s : Shape) (l : List Scope) → Only P (exits size codesAt s l)
   unfolding exits

@@ -1,30 +1,28 @@
 -- Every code that is read from code bytes is one of the table's: sound, and with an instruction of some size.
 -- Assumes nothing.
 use Prim.Native.Nat.{ℕ, zero, suc, _+_, _^_, _<_}
-use mathlib.Core.Path.{_≡_, refl, ap, subst}
+use mathlib.Core.Path.{_≡_, ap, subst}
 use mathlib.Core.List.{List, [], _∷_}
 use mathlib.Core.Bool.{Bool, true, false, _||_}
 use lib.Dec.{leb, eqb}
-use lib.ListN.{length, take, drop}
+use lib.ListN.{drop}
 use native.Mathlib.Omega.{arith}
 use borrow.Author.Tests.{ne-eqb}
 use Rattle.words.specs.Bits.{bits, bit}
-use Rattle.words.specs.Units.{codeBytes, stackWords}
+use Rattle.words.specs.Units.{stackWords}
 use Rattle.words.specs.declared.CodeBytes.{CodeBytes}
 use Rattle.words.specs.Answer.{ok, if_then_else_}
 use Rattle.unwinding.specs.CodeList.{Codes}
-use Rattle.codes.specs.Table.{Row, rows, rowIn, rowOf, range, lrIf}
-use Rattle.codes.specs.Code.{size, value, taken, takeFrom, scan, codesAt}
+use Rattle.codes.specs.Table.{Row, rows, rowIn, range, lrIf}
+use Rattle.codes.specs.Code.{size, scan, codesAt}
 use Rattle.codes.specs.declared.Code.{Code}
-use Rattle.codes.specs.declared.Meaning.{Meaning}
 use Rattle.codes.specs.declared.Meaning.the-variants.{Does, End, Undefined}
-use Rattle.codes.specs.declared.Taken.the-variants.{One, Bad}
 use Rattle.codes.specs.declared.Undo.{Undo}
 use Rattle.codes.specs.declared.Undo.the-variants.{Up, Pop, SpFrom, Vpop, LoadLr, Nothing}
 use Rattle.words.proofs.Answers.{bind-ok}
 use Rattle.unwinding.proofs.Ends.{Sized}
-use Rattle.codes.proofs.Scanning.{by-scan}
-use Rattle.codes.proofs.Sizes.{scan-sized}
+use Rattle.unwinding.proofs.Scanning.{by-scan, scan-sized}
+use Rattle.codes.proofs.Scanning.{took, takes}
 use Rattle.forward.proofs.Undoing.{Sound, AllSound}
 
 -- what a row's codes are
@@ -114,30 +112,12 @@ good-in b (_&_ {r = r} {rs = rs} p ps) v u h = go (leb b (r .last)) h (λ q. goo
     go false q ih = ih q
 
 -- ---- of each code taken, and so of a list
-taken-sound : (at : ℕ) (r : Row) (m : Meaning) (c : Code) (next : CodeBytes) → ((u : Undo) → m ≡ Does u → Sound u) → taken at r m ≡ One c next → Sound (c .undo)
-taken-sound at r (Does u) c next g h =
-    let e : record { undo = u; size = r .size } ≡ c = cc in
-    subst (λ (x : Code). Sound (x .undo)) e (g u refl)
-taken-sound at r End c next g h = absurd (let z : _≡_ {A = ℕ} 0 1 = cc in omega arith)
-taken-sound at r Undefined c next g h = absurd (let z : _≡_ {A = ℕ} 0 1 = cc in omega arith)
-
-take-sound : (at : ℕ) (left : List ℕ) (c : Code) (next : CodeBytes) → takeFrom at left ≡ One c next → Sound (c .undo)
-unfolding takeFrom
-take-sound at [] c next h = absurd (let z : _≡_ {A = ℕ} 0 1 = cc in omega arith)
-take-sound at (b ∷ s) c next h = go (leb (rowOf b .bytes) (length (b ∷ s))) h
-  where
-    v : ℕ
-    v = value (take (rowOf b .bytes) (b ∷ s)) 0
-
-    go : (t : Bool) → (if t then taken at (rowOf b) (rowOf b .means v) else Bad (codeBytes (at + length (b ∷ s)))) ≡ One c next → Sound (c .undo)
-    go true q = taken-sound at (rowOf b) (rowOf b .means v) c next (λ u. good-in b good-rows v u) q
-    go false q = absurd (let z : _≡_ {A = ℕ} 0 1 = cc in omega arith)
-
 scan-sound : (s : List ℕ) (i : CodeBytes) → AllSound (scan s i .list)
-scan-sound s i = by-scan s (λ j x. AllSound (x .list)) (λ j c next e ih. (take-sound j (drop j s) c next e, ih)) (λ j n e. tt) (λ j k e. tt) i
+scan-sound s i =
+    by-scan takes s (λ j x. AllSound (x .list)) (λ j c next r e ih. (good-in _ good-rows _ (c .undo) (took j (drop j s) e .means), ih)) (λ j n e. tt) (λ j k e. tt) i
 
 pub codes-fair : (s : List ℕ) (i : CodeBytes) (c : Codes Code) → codesAt s i ≡ ok c → AllSound (c .list) × Sized size (c .list)
 codes-fair s i c h =
     let e = bind-ok (scan s i .ending) _ c h in
     let l : scan s i .list ≡ c .list = ap (λ (x : Codes Code). x .list) (let z : record { list = scan s i .list; endSize = e .0 } ≡ c = cc (e .2) in z) in
-    subst (λ l. AllSound l × Sized size l) l (scan-sound s i, scan-sized s i)
+    subst (λ l. AllSound l × Sized size l) l (scan-sound s i, scan-sized takes s i)

@@ -21,7 +21,8 @@ use Rattle.unwinding.specs.Shape.{Shape}
 use Rattle.words.proofs.Answers.{bind-ok, need-ok, ok-same}
 use Rattle.record.proofs.Shapes.{shape-few}
 use Rattle.codes.specs.Code.{scan}
-use Rattle.codes.proofs.Sizes.{scan-length}
+use Rattle.unwinding.proofs.Scanning.{scan-length}
+use Rattle.codes.proofs.Scanning.{takes}
 use Rattle.machine.specs.declared.Regs.{Regs}
 use Rattle.machine.specs.Step.{stands}
 use Rattle.machine.specs.as_coded.Run.{runAt}
@@ -52,7 +53,7 @@ kept-from k s hd g p i Given c n q =
     let d : Caller = record { regs = returned (u .0); place = p; handler = hd; codes = length (scan s i .list) } in
     let w = need-ok (leb (g .sp) (u .0 .sp)) SpFell (ok d) c (u .2) in
     let e : d ≡ c = ok-same d c (w .1) in
-    record { sp = omega (arith, leb-true (g .sp) (u .0 .sp) (w .0), ap (λ y. y .regs .sp) e); codes = omega (arith, scan-length s i, ap (λ y. y .codes) e) }
+    record { sp = omega (arith, leb-true (g .sp) (u .0 .sp) (w .0), ap (λ y. y .regs .sp) e); codes = omega (arith, scan-length takes s i, ap (λ y. y .codes) e) }
 
 kept-within : (k : Lent) (s : Shape) (o : ℕ) (g : Regs) (c : Caller) → length (s .codes) ≤ 1020 → within k s o g ≡ ok c → Kept g c
 kept-within k s o g c n q =

@@ -1,8 +1,8 @@
 -- Running the codes from an index on: by the code that stands there, and where the code list is known.
 -- Assumes nothing.
-use Prim.Native.Nat.{ℕ, zero, suc, _+_, _-_, _≤_}
+use Prim.Native.Nat.{ℕ, _+_}
 use mathlib.Core.Path.{_≡_, refl, sym, ap, ap₂, _∙_}
-use mathlib.Core.List.{List, [], _∷_}
+use mathlib.Core.List.{List}
 use lib.ListN.{length}
 use native.Mathlib.Numerals.{add-one}
 use native.Mathlib.Omega.{arith}
@@ -15,18 +15,17 @@ use Rattle.words.specs.Answer.{Res, ok, refuse, _>>=_, _>>_}
 use Rattle.unwinding.specs.CodeList.{Codes, run}
 use Rattle.words.proofs.Answers.{bind-assoc, bind-same}
 use Rattle.unwinding.proofs.Running.{run-empty, run-step}
-use Rattle.codes.specs.Table.{rowOf}
-use Rattle.codes.specs.Code.{takeFrom, takeAt, Scan, follow, scanFrom, scan, codesAt}
+use Rattle.unwinding.specs.Taking.{Scan}
+use Rattle.codes.specs.Code.{takeAt, scan, codesAt}
 use Rattle.codes.specs.declared.Code.{Code}
-use Rattle.codes.specs.declared.Taken.{Taken}
 use Rattle.codes.specs.declared.Taken.the-variants.{One, Last, Bad}
-use Rattle.codes.proofs.Scanning.{scan-one, scan-last, scan-bad}
+use Rattle.codes.proofs.Scanning.{scan-by}
 use Rattle.machine.specs.Step.{step}
 use Rattle.machine.specs.as_coded.Run.{runAt, ran}
 use Rattle.machine.specs.declared.Regs.{Regs}
 
 -- the codes of a scan, and then its end
-abbrev through : Lent → Regs → Scan → Res Regs
+abbrev through : Lent → Regs → Scan Code → Res Regs
 through k g z = run (step k) (z .list) g >>= λ h. z .ending >> ok h
 
 module _ (k : Lent) (s : List ℕ) (i : CodeBytes) (g : Regs) where
@@ -34,7 +33,7 @@ module _ (k : Lent) (s : List ℕ) (i : CodeBytes) (g : Regs) where
   pub run-first : (c : Code) (next : CodeBytes) → takeAt s i ≡ One c next → runAt k s i g ≡ (step k c g >>= λ h. runAt k s next h)
   unfolding runAt
   run-first c next e =
-      ap (through k g) (scan-one s (i .0) c next e)
+      ap (through k g) (scan-by s i e)
       ∙ ap (λ x. x >>= λ h. scan s next .ending >> ok h) (run-step (step k) c (scan s next .list) g)
       ∙ bind-assoc (step k c g) (λ t. run (step k) (scan s next .list) t) (λ h. scan s next .ending >> ok h)
 
@@ -46,35 +45,20 @@ module _ (k : Lent) (s : List ℕ) (i : CodeBytes) (g : Regs) where
 
   pub run-last : (n : Halfwords) → takeAt s i ≡ Last n → runAt k s i g ≡ ok g
   unfolding runAt
-  run-last n e = ap (through k g) (scan-last s (i .0) n e) ∙ rw (run-empty (step k) g) refl
+  run-last n e = ap (through k g) (scan-by s i e) ∙ rw (run-empty (step k) g) refl
 
   pub run-bad : (j : CodeBytes) → takeAt s i ≡ Bad j → runAt k s i g ≡ refuse (BadCodes j)
   unfolding runAt
-  run-bad j e = ap (through k g) (scan-bad s (i .0) j e) ∙ rw (run-empty (step k) g) refl
+  run-bad j e = ap (through k g) (scan-by s i e) ∙ rw (run-empty (step k) g) refl
 
 -- the count of the codes goes the same way
 pub count-first :
     (s : List ℕ) (i : CodeBytes) (c : Code) (next : CodeBytes) → takeAt s i ≡ One c next
     → length (scan s i .list) ≡ length (scan s next .list) + 1
-count-first s i c next e = ap (λ z. length (z .list)) (scan-one s (i .0) c next e) ∙ sym (add-one _)
+count-first s i c next e = ap (λ z. length (z .list)) (scan-by s i e) ∙ sym (add-one _)
 
 pub count-last : (s : List ℕ) (i : CodeBytes) (n : Halfwords) → takeAt s i ≡ Last n → length (scan s i .list) ≡ 0
-count-last s i n e = ap (λ z. length (z .list)) (scan-last s (i .0) n e)
-
--- there are at most as many codes as bytes
-follow-short : (t : Taken) (z : Scan) (n : ℕ) → length (z .list) ≤ n → length (follow t z .list) ≤ suc n
-follow-short (One c next) z n h = omega arith
-follow-short (Last m) z n h = omega arith
-follow-short (Bad j) z n h = omega arith
-
-from-short : (a : ℕ) (s : List ℕ) (k : ℕ) → length (scanFrom a s k .list) ≤ length s
-unfolding scanFrom
-from-short a [] k = omega arith
-from-short a (b ∷ s) (suc k) = omega (arith, from-short (a + 1) s k)
-from-short a (b ∷ s) zero = follow-short (takeFrom a (b ∷ s)) _ (length s) (from-short (a + 1) s (rowOf b .bytes - 1))
-
-pub codes-short : (s : List ℕ) (i : CodeBytes) → length (scan s i .list) ≤ length s
-codes-short s i = from-short 0 s (i .0)
+count-last s i n e = ap (λ z. length (z .list)) (scan-by s i e)
 
 -- where the code bytes hold a whole code list, running them is running the list
 bind-ok : {A : Type 0} (x : Res A) → (x >>= λ a. ok a) ≡ x

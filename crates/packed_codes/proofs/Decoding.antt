@@ -17,11 +17,13 @@ use Rattle.words.proofs.Tests.{both}
 use Rattle.words.specs.Answer.{Res, ok, refuse, _>>=_}
 use Rattle.unwinding.specs.CodeList.{Codes}
 use Rattle.codes.specs.Table.{rows, rowIn}
-use Rattle.codes.specs.Code.{Scan, scanFrom, codesAt}
+use Rattle.unwinding.specs.Taking.{Scan, scanFrom}
+use Rattle.codes.specs.Code.{taking, bytesOf, codesAt}
 use Rattle.codes.specs.declared.Code.{Code}
 use Rattle.codes.specs.declared.Undo.{Undo}
 use Rattle.codes.specs.declared.Undo.the-variants.{Up}
-use Rattle.codes.proofs.Scanning.{scan-at}
+use Rattle.unwinding.proofs.Scanning.{scan-at}
+use Rattle.codes.proofs.Scanning.{takes}
 use Rattle.packed.specs.Packed.{Fit, amount, PF, EF, integers}
 use Rattle.packed_codes.specs.PackedCodes.{when, upCode, vpopCode, popCode, low, firstList, leave, secondList, written}
 use Rattle.packed.specs.declared.Packed.{Packed}
@@ -38,7 +40,7 @@ record Ended (bs : List ℕ) (c : Codes Code) : Type 0 where
   end : ℕ
   bytes : bs ≡ before ++ (end ∷ [])
   codes : Reads before (c .list)
-  ends : (at : ℕ) (rest : List ℕ) → scanFrom at (end ∷ rest) 0 ≡ record { list = []; ending = ok (c .endSize) }
+  ends : (at : ℕ) (rest : List ℕ) → scanFrom taking bytesOf at (end ∷ rest) 0 ≡ record { list = []; ending = ok (c .endSize) }
 
 abbrev ahead : List Code → Codes Code → Codes Code
 ahead cs c = record { list = cs ++ c .list; endSize = c .endSize }
@@ -138,14 +140,14 @@ module _ (p : Packed) (w : Fit p) where
   second-ended n = rw (second-some p n) (ended-after (reads-append (reads-ups (EF p)) reads-vpops) (leave-ended (EF p) n))
 
 -- ---- among other bytes
-abbrev codesOf : Scan → Res (Codes Code)
+abbrev codesOf : Scan Code → Res (Codes Code)
 codesOf s = s .ending >>= λ n. ok (record { list = s .list; endSize = n })
 
 module _ (k bs : List ℕ) (c : Codes Code) (e : Ended bs c) where
-  scanned : (rest : List ℕ) → scanFrom (length k) (bs ++ rest) 0 ≡ record { list = c .list; ending = ok (c .endSize) }
+  scanned : (rest : List ℕ) → scanFrom taking bytesOf (length k) (bs ++ rest) 0 ≡ record { list = c .list; ending = ok (c .endSize) }
   scanned rest =
-      ap (λ l. scanFrom (length k) (l ++ rest) 0) (e .bytes)
-      ∙ ap (λ l. scanFrom (length k) l 0) (append-assoc (e .before) (e .end ∷ []) rest)
+      ap (λ l. scanFrom taking bytesOf (length k) (l ++ rest) 0) (e .bytes)
+      ∙ ap (λ l. scanFrom taking bytesOf (length k) l 0) (append-assoc (e .before) (e .end ∷ []) rest)
       ∙ e .codes .read (length k) (e .end ∷ rest)
       ∙ ap (λ s. record { list = c .list ++ s .list; ending = s .ending }) (e .ends (length k + length (e .before)) rest)
       ∙ ap (λ l. record { list = l; ending = ok (c .endSize) }) (append-nil (c .list))
@@ -153,13 +155,13 @@ module _ (k bs : List ℕ) (c : Codes Code) (e : Ended bs c) where
   -- whatever follows the list
   read-there : (rest : List ℕ) → codesAt (k ++ (bs ++ rest)) (codeBytes (length k)) ≡ ok c
   read-there rest =
-      ap codesOf (scan-at (k ++ (bs ++ rest)) (length k) ∙ ap (λ l. scanFrom (length k) l 0) (drop-append-seam k (bs ++ rest)) ∙ scanned rest)
+      ap codesOf (scan-at takes (k ++ (bs ++ rest)) (length k) ∙ ap (λ l. scanFrom taking bytesOf (length k) l 0) (drop-append-seam k (bs ++ rest)) ∙ scanned rest)
 
   -- and not without its last byte
   no-end : codesAt (k ++ e .before) (codeBytes (length k)) ≢ ok c
   unfolding scanFrom
   no-end q =
-      let s = scan-at (k ++ e .before) (length k) ∙ ap (λ l. scanFrom (length k) l 0) (drop-append-seam k (e .before) ∙ sym (append-nil (e .before))) ∙ e .codes .read (length k) [] in
+      let s = scan-at takes (k ++ e .before) (length k) ∙ ap (λ l. scanFrom taking bytesOf (length k) l 0) (drop-append-seam k (e .before) ∙ sym (append-nil (e .before))) ∙ e .codes .read (length k) [] in
       let r : _≡_ {A = Res (Codes Code)} (refuse (BadCodes (codeBytes (length k + length (e .before) + 0)))) (ok c) = sym (ap codesOf s) ∙ q in
       let z : _≡_ {A = ℕ} 0 1 = cc in omega arith
 

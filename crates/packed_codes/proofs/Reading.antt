@@ -10,11 +10,14 @@ use lib.ListN.{length, length-append}
 use native.Mathlib.Omega.{arith}
 use borrow.Author.Tests.{leb-true, le-leb, lt-leb, eqb-true}
 use Rattle.words.specs.Bits.{bits}
-use Rattle.words.specs.Units.{stackWords, halfwordBytes}
+use Rattle.words.specs.Units.{codeBytes, stackWords, halfwordBytes}
 use Rattle.words.specs.declared.Halfwords.{Halfwords}
 use Rattle.words.specs.Answer.{ok, if_then_else_}
 use Rattle.codes.specs.Table.{Row, row, rows, rowIn, rowOf, range, lrIf, bits16, bits32}
-use Rattle.codes.specs.Code.{value, takeFrom, Scan, scanFrom}
+use Rattle.unwinding.specs.Taking.{one, Scan, scanFrom}
+use Rattle.unwinding.proofs.Scanning.{scan-front}
+use Rattle.codes.proofs.Scanning.{takes}
+use Rattle.codes.specs.Code.{value, takeFrom, taking, bytesOf}
 use Rattle.codes.specs.declared.Code.{Code}
 use Rattle.codes.specs.declared.Meaning.the-variants.{Does, End}
 use Rattle.codes.specs.declared.Undo.{Undo}
@@ -23,24 +26,24 @@ use Rattle.packed_codes.specs.PackedCodes.{when, upCode, upTo, dForm, po
 use Rattle.packed_codes.specs.Lists.{only, sizeIf, pops}
 
 -- codes before what a scan found
-abbrev ahead : List Code → Scan → Scan
+abbrev ahead : List Code → Scan Code → Scan Code
 ahead cs s = record { list = cs ++ s .list; ending = s .ending }
 
 pub record Reads (bs : List ℕ) (cs : List Code) : Type 0 where
-  pub read : (at : ℕ) (rest : List ℕ) → scanFrom at (bs ++ rest) 0 ≡ ahead cs (scanFrom (at + length bs) rest 0)
+  pub read : (at : ℕ) (rest : List ℕ) → scanFrom taking bytesOf at (bs ++ rest) 0 ≡ ahead cs (scanFrom taking bytesOf (at + length bs) rest 0)
 
 pub reads-none : Reads [] []
-reads-none = record { read = λ at rest. ap (λ n. scanFrom n rest 0) (let z : at ≡ at + 0 = omega arith in z) }
+reads-none = record { read = λ at rest. ap (λ n. scanFrom taking bytesOf n rest 0) (let z : at ≡ at + 0 = omega arith in z) }
 
 append-read :
     (a b : List ℕ) (cs ds : List Code) → Reads a cs → Reads b ds → (at : ℕ) (rest : List ℕ)
-    → scanFrom at (a ++ b ++ rest) 0 ≡ ahead (cs ++ ds) (scanFrom (at + length (a ++ b)) rest 0)
+    → scanFrom taking bytesOf at (a ++ b ++ rest) 0 ≡ ahead (cs ++ ds) (scanFrom taking bytesOf (at + length (a ++ b)) rest 0)
 append-read a b cs ds h k at rest =
-    ap (λ l. scanFrom at l 0) (append-assoc a b rest)
+    ap (λ l. scanFrom taking bytesOf at l 0) (append-assoc a b rest)
     ∙ h .read at (b ++ rest)
     ∙ ap (ahead cs) (k .read (at + length a) rest)
-    ∙ ap (λ l. record { list = l; ending = scanFrom (at + length a + length b) rest 0 .ending }) (sym (append-assoc cs ds (scanFrom (at + length a + length b) rest 0 .list)))
-    ∙ ap (λ n. ahead (cs ++ ds) (scanFrom n rest 0)) (let z : at + length a + length b ≡ at + length (a ++ b) = omega (arith, length-append a b) in z)
+    ∙ ap (λ l. record { list = l; ending = scanFrom taking bytesOf (at + length a + length b) rest 0 .ending }) (sym (append-assoc cs ds (scanFrom taking bytesOf (at + length a + length b) rest 0 .list)))
+    ∙ ap (λ n. ahead (cs ++ ds) (scanFrom taking bytesOf n rest 0)) (let z : at + length a + length b ≡ at + length (a ++ b) = omega (arith, length-append a b) in z)
 
 pub reads-append : {a b : List ℕ} {cs ds : List Code} → Reads a cs → Reads b ds → Reads (a ++ b) (cs ++ ds)
 reads-append {a} {b} {cs} {ds} h k = record { read = append-read a b cs ds h k }
@@ -55,29 +58,31 @@ codeOf u r = record { undo = u; size = r .size }
 
 one-read :
     (b : ℕ) (r : Row) (u : Undo) → rowOf b ≡ r → r .bytes ≡ 1 → r .means (256 * 0 + b) ≡ Does u → (at : ℕ) (rest : List ℕ)
-    → scanFrom at (b ∷ rest) 0 ≡ ahead (codeOf u r ∷ []) (scanFrom (at + 1) rest 0)
-unfolding scanFrom takeFrom value
+    → scanFrom taking bytesOf at (b ∷ rest) 0 ≡ ahead (codeOf u r ∷ []) (scanFrom taking bytesOf (at + 1) rest 0)
+unfolding takeFrom value
 one-read b r u e n m at rest =
     let l : leb 1 (length (b ∷ rest)) ≡ true = le-leb 1 (length (b ∷ rest)) (omega arith) in
-    rw (e, n, l, m) refl
+    let q : taking at (b ∷ rest) ≡ one (codeOf u r) (codeBytes (at + 1)) = rw (e, n, l, m) refl in
+    scan-front takes at b [] rest q (ap (λ x. x .bytes) e ∙ n)
 
-one : (b : ℕ) (r : Row) (u : Undo) → rowOf b ≡ r → r .bytes ≡ 1 → r .means (256 * 0 + b) ≡ Does u → Reads (b ∷ []) (codeOf u r ∷ [])
-one b r u e n m = record { read = one-read b r u e n m }
+reads-one : (b : ℕ) (r : Row) (u : Undo) → rowOf b ≡ r → r .bytes ≡ 1 → r .means (256 * 0 + b) ≡ Does u → Reads (b ∷ []) (codeOf u r ∷ [])
+reads-one b r u e n m = record { read = one-read b r u e n m }
 
 two-read :
     (b c : ℕ) (r : Row) (u : Undo) → rowOf b ≡ r → r .bytes ≡ 2 → r .means (256 * (256 * 0 + b) + c) ≡ Does u → (at : ℕ) (rest : List ℕ)
-    → scanFrom at (b ∷ c ∷ rest) 0 ≡ ahead (codeOf u r ∷ []) (scanFrom (at + 2) rest 0)
-unfolding scanFrom takeFrom value
+    → scanFrom taking bytesOf at (b ∷ c ∷ rest) 0 ≡ ahead (codeOf u r ∷ []) (scanFrom taking bytesOf (at + 2) rest 0)
+unfolding takeFrom value
 two-read b c r u e n m at rest =
     let l : leb 2 (length (b ∷ c ∷ rest)) ≡ true = le-leb 2 (length (b ∷ c ∷ rest)) (omega arith) in
-    rw (e, n, l, m) (ap (λ k. ahead (codeOf u r ∷ []) (scanFrom k rest 0)) (let z : at + 1 + 1 ≡ at + 2 = omega arith in z))
+    let q : taking at (b ∷ c ∷ rest) ≡ one (codeOf u r) (codeBytes (at + 2)) = rw (e, n, l, m) refl in
+    scan-front takes at b (c ∷ []) rest q (ap (λ x. x .bytes) e ∙ n)
 
 two : (b c : ℕ) (r : Row) (u : Undo) → rowOf b ≡ r → r .bytes ≡ 2 → r .means (256 * (256 * 0 + b) + c) ≡ Does u → Reads (b ∷ c ∷ []) (codeOf u r ∷ [])
 two b c r u e n m = record { read = two-read b c r u e n m }
 
 -- an end code
 pub ends : (b : ℕ) (n : Halfwords) (at : ℕ) (rest : List ℕ) → (rowOf b .bytes ≡ 1) → (rowOf b .size ≡ n) → ((v : ℕ) → rowOf b .means v ≡ End)
-    → scanFrom at (b ∷ rest) 0 ≡ record { list = []; ending = ok (halfwordBytes n) }
+    → scanFrom taking bytesOf at (b ∷ rest) 0 ≡ record { list = []; ending = ok (halfwordBytes n) }
 unfolding scanFrom takeFrom value
 ends b n at rest e z m =
     let l : leb 1 (length (b ∷ rest)) ≡ true = le-leb 1 (length (b ∷ rest)) (omega arith) in
@@ -122,23 +127,23 @@ reads-up n h = reads-when (not (eqb n 0)) (go (leb n 127) refl)
     go :
         (t : Bool) → leb n 127 ≡ t
         → Reads (if t then n ∷ [] else (0xE8 + n / 256) ∷ (n % 256) ∷ []) (only true (Up (stackWords n)) (sizeIf t))
-    go true e = one n _ (Up (stackWords n)) (up-row n (leb-true n 127 e)) refl (ap (λ i. Does (Up (stackWords i))) (let z : bits 0 7 (256 * 0 + n) ≡ n = omega (arith, leb-true n 127 e) in z))
+    go true e = reads-one n _ (Up (stackWords n)) (up-row n (leb-true n 127 e)) refl (ap (λ i. Does (Up (stackWords i))) (let z : bits 0 7 (256 * 0 + n) ≡ n = omega (arith, leb-true n 127 e) in z))
     go false e =
         two (0xE8 + n / 256) (n % 256) _ (Up (stackWords n)) (long-up-row (0xE8 + n / 256) (omega arith) (omega arith)) refl
         (ap (λ i. Does (Up (stackWords i))) (let z : bits 0 10 (256 * (256 * 0 + (0xE8 + n / 256)) + n % 256) ≡ n = omega arith in z))
 
 pub reads-vpop : (x : ℕ) → x < 8 → Reads ((0xE0 + x) ∷ []) (only true (Vpop 8 (8 + x)) bits32)
 reads-vpop x h =
-    one (0xE0 + x) _ (Vpop 8 (8 + x)) (vpop-row (0xE0 + x) (omega arith) (omega arith)) refl
+    reads-one (0xE0 + x) _ (Vpop 8 (8 + x)) (vpop-row (0xE0 + x) (omega arith) (omega arith)) refl
     (ap (λ i. Does (Vpop 8 (8 + i))) (let z : bits 0 3 (256 * 0 + (0xE0 + x)) ≡ x = omega arith in z))
 
 pub reads-nop : Reads (0xFC ∷ []) (only true Nothing bits32)
 unfolding rows rowIn
-reads-nop = one 0xFC (rowOf 0xFC) Nothing refl refl refl
+reads-nop = reads-one 0xFC (rowOf 0xFC) Nothing refl refl refl
 
 pub reads-home : Reads (0x04 ∷ []) (only true (Up (stackWords 4)) bits16)
 unfolding rows rowIn
-reads-home = one 0x04 (rowOf 0x04) (Up (stackWords 4)) refl refl refl
+reads-home = reads-one 0x04 (rowOf 0x04) (Up (stackWords 4)) refl refl refl
 
 pub reads-return : Reads (0xEF ∷ 0x05 ∷ []) (only true (LoadLr (stackWords 5)) bits32)
 unfolding rows rowIn
@@ -171,7 +176,7 @@ pop-16 l b none e h k =
     (ap₂ (λ i j. Does (Pop (i + lrIf j))) (let z : bits 0 8 (256 * (256 * 0 + (0xEC + b)) + l) ≡ l = omega arith in z) (let z : bits 8 1 (256 * (256 * 0 + (0xEC + b)) + l) ≡ b = omega arith in z))
 pop-16 l b (some y) e h k =
     let u = up-to 4 4 l y e in
-    one (0xD0 + y % 4 + 4 * b) _ (Pop (l + lrIf b)) (d-row (0xD0 + y % 4 + 4 * b) (omega arith) (omega arith)) refl
+    reads-one (0xD0 + y % 4 + 4 * b) _ (Pop (l + lrIf b)) (d-row (0xD0 + y % 4 + 4 * b) (omega arith) (omega arith)) refl
     (ap₂ (λ i j. Does (Pop (range 4 i + lrIf j))) (let z : 4 + bits 0 2 (256 * 0 + (0xD0 + y % 4 + 4 * b)) ≡ y = omega (arith, u .low, u .high) in z)
     (let z : bits 2 1 (256 * 0 + (0xD0 + y % 4 + 4 * b)) ≡ b = omega arith in z)
     ∙ ap (λ i. Does (Pop (i + lrIf b))) (sym (u .same)))
@@ -183,7 +188,7 @@ pop-32 l b none e h k =
     (let z : bits 13 1 (256 * (256 * 0 + (0x80 + l / 256 + 32 * b)) + l % 256) ≡ b = omega arith in z))
 pop-32 l b (some y) e h k =
     let u = up-to 4 8 l y e in
-    one (0xD8 + y % 4 + 4 * b) _ (Pop (l + lrIf b)) (long-d-row (0xD8 + y % 4 + 4 * b) (omega arith) (omega arith)) refl
+    reads-one (0xD8 + y % 4 + 4 * b) _ (Pop (l + lrIf b)) (long-d-row (0xD8 + y % 4 + 4 * b) (omega arith) (omega arith)) refl
     (ap₂ (λ i j. Does (Pop (range 4 i + lrIf j))) (let z : 8 + bits 0 2 (256 * 0 + (0xD8 + y % 4 + 4 * b)) ≡ y = omega (arith, u .low, u .high) in z)
     (let z : bits 2 1 (256 * 0 + (0xD8 + y % 4 + 4 * b)) ≡ b = omega arith in z)
     ∙ ap (λ i. Does (Pop (i + lrIf b))) (sym (u .same)))

@@ -60,6 +60,12 @@ module _ {C : Type 0} (size : C → ℕ) where
   endOf-whole after n [] e = let h : after ≡ n = omega arith in rw (eq-eqb after n h) refl
   endOf-whole after n (c ∷ l) e = rw (eq-eqb _ _ e) refl
 
+  -- no end of a list is longer than the list
+  pub endOf-short : (after n : ℕ) (cs : List C) → total size cs + after < n → endOf size after n cs ≡ none
+  unfolding endOf total
+  endOf-short after n [] h = let l : after ≡ n → ⊥ = λ e. omega arith in rw (ne-eqb after n l) refl
+  endOf-short after n (c ∷ cs) h = let l : size c + total size cs + after ≡ n → ⊥ = λ e. omega arith in rw (ne-eqb _ _ l) (endOf-short after n cs (omega arith))
+
   -- each code of the list has an instruction
   abbrev pub Sized : List C → Type 0
   Sized [] = Unit {0}

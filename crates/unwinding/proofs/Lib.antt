@@ -1,6 +1,9 @@
 pub mod Opened
 pub mod Running
 pub mod Ends
+pub mod Scanning
+pub mod Skipping
+pub mod SkipEnds
 pub mod Viewed
 pub mod Places
 pub mod Lined

@@ -9,12 +9,13 @@ use borrow.Fn.Kinds.{In}
 use borrow.Fn.PlainCycle.{Measures, is, falls, and}
 use lib.ListN.{length}
 use Rattle.words.specs.Lent.{lent}
-use Rattle.codes.specs.Code.{takeAt}
+use Rattle.codes.specs.Code.{takeAt, seen}
 use Rattle.codes.specs.declared.Taken.the-variants.{One}
-use Rattle.codes.proofs.Scanning.{take-next}
-use Rattle.machine.specs.as_coded.Answers.{regs}
+use Rattle.unwinding.proofs.Scanning.{take-next, scan-length}
+use Rattle.codes.proofs.Scanning.{takes}
+use Rattle.machine.specs.Answers.{regs}
 use Rattle.machine.proofs.Answers.{came-given, came-refused, clash}
-use Rattle.machine.proofs.Running.{first-given, first-refused, run-last, run-bad, count-first, count-last, codes-short}
+use Rattle.machine.proofs.Running.{first-given, first-refused, run-last, run-bad, count-first, count-last}
 use Rattle.machine.proofs.run_on.Reads as run-on
 use Rattle.machine.proofs.run_on.Kinds as run-on-kinds
 use Rattle.machine.proofs.+run_on.Lts-run_on as run-on-lts
@@ -81,7 +82,7 @@ run-on-run-on-requires : (t : ℕ) → run-on-lts.Need-run-on-requires (told t) 
 run-on-run-on-requires t c κs =
     let n = c .before .before .before .before .before .before .before .before in
     let a = n .before .before .before .before .before .args in
-    let on = take-next (a .codes .now) (a .at .0) _ _ (taken t n) in
+    let on = take-next takes (a .codes .now) (a .at .0) (ap seen (taken t n)) in
     (omega (arith, on), tt)
 
 run-on-add-count : (t : ℕ) → run-on-lts.Need-add-count (told t) (run-on-at t) run-on.Post
@@ -89,7 +90,7 @@ run-on-add-count t c =
     let r = c .before in
     let n = r .before .before .before .before .before .before .before .before .before in
     let a = n .before .before .before .before .before .args in
-    omega (arith, r .run-on .ensures .1 .most, codes-short (a .codes .now) (n .code .given .0 .1 .0), n .before .before .before .before .before .good)
+    omega (arith, r .run-on .ensures .1 .most, scan-length takes (a .codes .now) (n .code .given .0 .1 .0), n .before .before .before .before .before .good)
 
 run-on-enum-told-2 : (t : ℕ) → run-on-lts.Need-enum-told-2 (told t) (run-on-at t) run-on.Post
 run-on-enum-told-2 t c = search needs
