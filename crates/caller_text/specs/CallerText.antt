@@ -1,4 +1,4 @@
--- What the caller program prints of a report's one frame:
+-- The caller's text: what is printed of a report's one frame (RULES 8.6):
 --
 --   caller place prologue handler 00000000 codes 1
 --   r0 00000000
@@ -11,7 +11,7 @@
 --   …
 --   d31 0000000000000000
 --
--- A refused frame's first line is `refused R`, with the registers as given; refusal 14 prints only that line.
+-- A refused frame's first line is `refused R`, with the registers as given; a file that is no report has that line alone (RULES 8.5).
 use Prim.Native.Nat.{ℕ}
 use mathlib.Core.List.{List, _++_}
 use lib.ListN.{getD}

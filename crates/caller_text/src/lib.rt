@@ -1,4 +1,4 @@
-// What the caller program prints: one frame's answer, and the registers of the caller, as bytes. It neither reads nor writes.
+// The caller's text (RULES 8.6): one frame's answer, and the registers of the caller, as bytes. It neither reads nor writes.
 ghost use mathlib.Core.List.{_++_};
 ghost use mathlib.Core.Path.{_≡_};
 ghost use Prim.Native.Nat.{_≤_};
@@ -23,7 +23,7 @@ use text::put_text;
 use words::Place;
 use words::Verdict;
 
-// The largest text.
+// The largest text (RULES 8.7).
 pub const CALLER_BYTES: usize = 1024;
 
 // The line of sp, lr or pc.

@@ -17,7 +17,7 @@ ghost use Rattle.caller_text.specs.CallerText.{callerText};
 ghost use Rattle.exports.specs.Numbers.{foundNumbers, foundRefusal, fieldsIn, lengths};
 
 // A report's bytes in, the text that `walk` or `caller` prints into a lent buffer. The result is the text's length; what does not fit the
-// buffer is left out.
+// buffer is left out (RULES 8.7).
 
 // The listing: at most 8,192 bytes.
 #[no_mangle]
@@ -35,8 +35,8 @@ pub extern "C" fn leafbobbin_caller(report: &[u8], out: &mut [u8]) -> usize
     caller_text::show_caller(report, out)
 }
 
-// The operations on tables: the result is the refusal's number, 0 if there is none, and the answer goes into what is lent, 0 if it is
-// refused.
+// The operations on tables (RULES 8.12): the result is the refusal's number, 0 if there is none, and the answer goes into what is lent,
+// 0 if it is refused.
 
 // What finding tells a C program.
 struct Told {
@@ -63,7 +63,7 @@ fn tell(f: Found) -> Told
     }
 }
 
-// The record for a pc: 1, its number, its start and its word; 0 four times if there is none.
+// The record of a pc: 1, its number, its start and its word; 0 four times if there is none.
 #[no_mangle]
 pub extern "C" fn leafbobbin_find(image: u32, pdata: &[u8], pc: u32, out: &mut [u64; 4]) -> u32
     ensures { λ r. ⌜ (r ≡ foundRefusal (found (find image (now (pdata .entry)) pc))) × (now (out .exit) ≡ foundNumbers (found (find image (now (pdata .entry)) pc))) ⌝ }
@@ -74,7 +74,7 @@ pub extern "C" fn leafbobbin_find(image: u32, pdata: &[u8], pc: u32, out: &mut [
     t.refusal
 }
 
-// The bytes of the .xdata record at an RVA.
+// The bytes of the .xdata record at an RVA (RULES 2.13).
 #[no_mangle]
 pub extern "C" fn leafbobbin_size(rva: u32, xdata: &[u8], at: u32, bytes: &mut u32) -> u32
     ensures { λ r. ⌜ (r ≡ verdictNumber (sizeAnswer (xdataSize (lent rva (now (xdata .entry))) at) .verdict)) × (now (bytes .exit) ≡ sizeAnswer (xdataSize (lent rva (now (xdata .entry))) at) .bytes) ⌝ }
@@ -102,7 +102,7 @@ fn fields_in(fields: &[u32; 9]) -> Packed
     }
 }
 
-// The packed word of nine fields.
+// The packed word of nine fields (RULES 4.18).
 #[no_mangle]
 pub extern "C" fn leafbobbin_word(fields: &[u32; 9], word: &mut u32) -> u32
     ensures { λ r. ⌜ (r ≡ verdictNumber (wordAnswer (writeWord (fieldsIn (now (fields .entry)))) .verdict)) × (now (word .exit) ≡ wordAnswer (writeWord (fieldsIn (now (fields .entry)))) .word) ⌝ }
@@ -113,7 +113,7 @@ pub extern "C" fn leafbobbin_word(fields: &[u32; 9], word: &mut u32) -> u32
     words::verdict_number(verdict)
 }
 
-// The code bytes of a packed word, first list, second list, the rest 0, and both lengths.
+// The 16 code bytes of a packed word, and how many of them each of its lists has (RULES 4.19).
 #[no_mangle]
 pub extern "C" fn leafbobbin_codes(word: u32, bytes: &mut [u8; 16], lens: &mut [usize; 2]) -> u32
     ensures { λ r. ⌜ (r ≡ verdictNumber (codesAnswer (writeCodes word) .verdict)) × (now (bytes .exit) ≡ codesAnswer (writeCodes word) .bytes) × (now (lens .exit) ≡ lengths (codesAnswer (writeCodes word))) ⌝ }

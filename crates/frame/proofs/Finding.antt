@@ -1,4 +1,4 @@
--- One frame by what was found: its refusal, 8 for the given SP, no record, or the record.
+-- One frame by what was found: its refusal, 8 for SP as given, no record, or the record.
 -- Assumes nothing.
 use Prim.Native.Nat.{ℕ, _%_}
 use mathlib.Core.Path.{_≡_, refl, sym, ap, _∙_}

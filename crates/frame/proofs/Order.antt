@@ -1,4 +1,4 @@
--- The order of one frame's refusals: inputs that are wrong in two ways, and the number that comes first.
+-- The order of one frame's refusals (RULES 9.50): inputs that are wrong in two ways, and the number that comes first.
 -- Assumes nothing.
 use Prim.Native.Nat.{ℕ}
 use mathlib.Core.Path.{_≡_, refl}
@@ -29,7 +29,7 @@ unsorted b =
 abbrev refusal : Inputs → Regs → ℕ
 refusal t g = verdictNumber (verdict (frame t g))
 
--- 1, 2, 3, 8 for the given SP
+-- 1 before 2, 2 before 3, 3 before 8 of the SP that was given
 first-1 : refusal (unsorted 0x20002) (regs 0x3FFFFE 0x20001 0) ≡ 1
 unfolding opened
 first-1 = refl
@@ -101,7 +101,7 @@ ten-before-8 : refusal conditional (regs 0x401008 0x20000 0) ≡ 10
 unfolding opened
 ten-before-8 = refl
 
--- 8 as codes run, before 11: SP = r7 below the given SP, and then more than the stack has
+-- 8 of a code before 11: SP = r7, lower than it was given, and then more than the stack has
 abbrev falling : (code : ℕ) → Inputs
 falling c = inputs 0x3000 (0x10000010 ∷ c ∷ []) 0x20000
 

@@ -1,7 +1,4 @@
--- One frame. "Order: 1, 2, 3, 8 for the given SP, then the record with the greatest start not above the pc. Packed: 4. Full: first word
--- 5, Vers 4, extension word 5, its reserved byte 4, whole record 5, scope Res 4. If the pc is not below start + length, or no record
--- starts at or below it, there is no covering record: the function is a leaf, only pc changes, 0 codes run. Otherwise 6, 7, 9, 10, then
--- 8 as codes run, then 11."
+-- One frame (RULES 6), with its refusals in the order of RULES 9.50.
 use Prim.Native.Nat.{ℕ, _-_, _%_, _^_}
 use mathlib.Core.List.{List, map}
 use mathlib.Core.Bool.{Bool, true, false, _&&_}
@@ -32,7 +29,7 @@ use Rattle.record.specs.Record.{shapeOf}
 use Rattle.frame.specs.declared.Unwound.{Unwound}
 use Rattle.pdata.specs.declared.Checked.{Checked}
 
--- what is lent beside the registers
+-- what is lent beside the registers (RULES 1.1)
 pub record Inputs : Type 0 where
   pub image : ℕ
   pub pdata : List ℕ
@@ -42,30 +39,30 @@ pub record Inputs : Type 0 where
 abbrev pub inputs : (image : ℕ) → (pdata : List ℕ) → (rva : ℕ) → (xdata : List ℕ) → (base : ℕ) → (stack : List ℕ) → Inputs
 inputs i p r x b k = record { image = i; pdata = p; xdata = lent r x; stack = lent b k }
 
--- 1: "stack base or length not a multiple of 4; stack end above 2^32 - 4"
+-- what 1 asks of the stack (RULES 9.1)
 abbrev pub fitStack : Lent → Bool
 fitStack k = eqb (k .base % 4) 0 && eqb (length (k .bytes) % 4) 0 && leb (end k) (2 ^ 32 - 4)
 
--- "One frame's answer: registers, place, handler RVA (0 if none), and the number of codes run, end codes not counted"
+-- what a frame that is not refused comes to (RULES 6.1, 6.4 to 6.6)
 pub record Caller : Type 0 where
   pub regs : Regs
   pub place : Place
   pub handler : ℕ
   pub codes : ℕ
 
--- "LR keeps its value; pc is LR with bit 0 cleared"
+-- back in the caller: its pc is in LR, which stays as it is (RULES 6.2, 6.3)
 abbrev pub returned : Regs → Regs
 returned g = setPc g (even (g .lr))
 
 abbrev pub leafOf : Regs → Caller
 leafOf g = record { regs = returned g; place = Leaf; handler = 0; codes = 0 }
 
--- "If … there is no covering record (12 in a walk's later frame): the function is a leaf"
+-- nothing covers the pc: a leaf in the first frame, 12 in a later one (RULES 5.2, 6.2)
 abbrev pub uncovered : (first : Bool) → Regs → Res Caller
 uncovered true g = ok (leafOf g)
 uncovered false g = refuse NoRecord
 
--- at an offset of a function that covers it: "6, 7, 9, 10, then 8 as codes run, then 11"
+-- at an offset of a function that covers it: the view (6, 7), the place (9, 10), the codes one by one (8), SP at last (11; RULES 6.3)
 unfoldable pub within : (stack : Lent) → Shape → (offset : ℕ) → Regs → Res Caller
 within k s o g = do
   v ← view size codesAt s
@@ -74,14 +71,14 @@ within k s o g = do
   need (leb (g .sp) (h .sp)) SpFell
   ok (record { regs = returned h; place = t .place; handler = s .handler; codes = length (t .codes) })
 
--- by the record found
+-- by the record found, at the offset of RULES 5.1
 unfoldable pub byRecord : (first : Bool) → Inputs → Entry → Regs → Res Caller
 byRecord first t e g = do
   s ← shapeOf (t .xdata) e
   let o = even (g .pc) - t .image - e .start
   if ltb o (s .span) then within (t .stack) s o g else uncovered first g
 
--- after the record was found: "8 for the given SP, then the record"
+-- after the search: the SP that was given (8), before the record is read (RULES 9.50)
 abbrev pub afterFind : (first : Bool) → Inputs → Regs → Res (Option Entry) → Res Caller
 afterFind first t g found = do
   e ← found
@@ -97,7 +94,7 @@ frameOf first t g = do
 abbrev pub frame : Inputs → Regs → Res Caller
 frame t g = frameOf true t g
 
--- the whole answer: "A refusal returns the given registers, 0 codes, handler 0 and place leaf"
+-- the whole answer; a refusal has the registers as they came, place leaf and zeros (RULES 6.7)
 abbrev pub unwound : Regs → Res Caller → Unwound
 unwound g (ok c) = record { verdict = Given; regs = c .regs; place = c .place; handler = c .handler; codes = c .codes }
 unwound g (refuse r) = record { verdict = Refused r; regs = g; place = Leaf; handler = 0; codes = 0 }

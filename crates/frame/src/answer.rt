@@ -16,7 +16,7 @@ ghost use Rattle.words.specs.Answer.{refuse};
 ghost use Rattle.frame.specs.Frame.{returned as returnedOf, uncovered as uncoveredOf, byRecord, inputs, unwound};
 ghost use Rattle.frame.specs.as_coded.FromPlace.{ranFrom, fromPlaced, byFull, byPacked};
 
-// A refusal gives back the given registers.
+// A refusal has the registers as they came (RULES 6.7).
 pub fn refused(g: Regs, why: Refusal) -> Unwound
     ensures { λ r. ⌜ r ≡ unwound g (refuse why) ⌝ }
 {
@@ -29,7 +29,7 @@ pub fn refused(g: Regs, why: Refusal) -> Unwound
     }
 }
 
-// LR keeps its value; pc is LR with bit 0 cleared.
+// Back in the caller: its pc is in LR, which stays as it is (RULES 6.3).
 fn returned(g: Regs) -> Regs
     ensures { λ r. ⌜ r ≡ returnedOf g ⌝ }
 {
@@ -38,7 +38,7 @@ fn returned(g: Regs) -> Regs
     h
 }
 
-// No covering record: a leaf, and 12 for a frame after the first.
+// Nothing covers the pc: a leaf in the first frame, 12 in a later one (RULES 6.2).
 pub fn uncovered(first: bool, g: Regs) -> Unwound
     ensures { λ r. ⌜ r ≡ unwound g (uncoveredOf first g) ⌝ }
 {
@@ -132,7 +132,7 @@ fn by_packed(first: bool, word: u32, o: u64, g: Regs, base: u32, stack: &[u8]) -
     from_placed(first, &bytes, p.at, g, base, stack)
 }
 
-// How far the pc is into a function.
+// How far the pc is into a function (RULES 5.1).
 fn offset_of(image: u32, start: u32, pc: u32) -> u64
     ensures { λ r. ⌜ r ≡ even pc - image - start ⌝ }
 {

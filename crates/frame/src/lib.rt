@@ -1,5 +1,5 @@
-// One frame: the checks of its inputs in document 01's order, the record of its pc, the place, and the caller. It knows neither lists
-// nor files.
+// One frame: the checks of its inputs in the order of RULES 9.50, the record of its pc, the place, and the caller. It knows neither
+// lists nor files.
 use machine::Regs;
 use pdata::Checked;
 use pdata::Found;
@@ -21,7 +21,7 @@ ghost use Rattle.pdata.specs.declared.Entry.{Entry};
 ghost use Rattle.pdata.specs.Pdata.{found as foundOf};
 ghost use Rattle.frame.specs.Frame.{inputs, fitStack, checked, unwound, afterFind, frameOf, frame};
 
-// One frame's answer. A refusal gives back the given registers, 0 codes, handler 0 and place leaf.
+// One frame's answer (RULES 6.1). A refusal has the registers as they came, place leaf and zeros (RULES 6.7).
 pub struct Unwound {
     pub verdict: Verdict,
     pub regs: Regs,
@@ -30,7 +30,7 @@ pub struct Unwound {
     pub codes: usize,
 }
 
-// 1 for the stack.
+// What 1 asks of the stack (RULES 9.1).
 fn fit_stack(base: u32, stack: &[u8]) -> bool
     ensures { λ r. ⌜ r ≡ fitStack (lent base (now (stack .entry))) ⌝ }
 {
@@ -70,7 +70,7 @@ pub fn check(pdata: &[u8], rva: u32, xdata: &[u8], base: u32, stack: &[u8]) -> C
     }
 }
 
-// After the record was found: 8 for the given SP, then the caller.
+// After the search: the SP that was given (8), and then the caller.
 fn after_find(
     first: bool,
     found: Found,

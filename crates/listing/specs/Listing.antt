@@ -1,12 +1,11 @@
--- What the walk program prints:
+-- The listing of a report (RULES 8.3, 8.4); that of RULES 8.13:
 --
 --   frame pc sp place
 --   0 00401002 00020008 prologue
 --   1 00402010 00020014 body
 --   end frames 2 codes 2
 --
--- "Fields: number, pc and SP (8 lower-case hex digits), place. Other last lines: `full frames F codes C`; `refused R at PC frames F codes
--- C`. Refusal 14 prints only `refused 14`."
+-- The last line begins otherwise if the list was full or a frame was refused. A file that is no report has one line (RULES 8.5).
 use Prim.Native.Nat.{ℕ, _+_}
 use Prim.Native.String.{String}
 use mathlib.Core.List.{List, [], _∷_, _++_}
@@ -61,6 +60,6 @@ trailOf a = record { frames = take (a .walked .frames) (a .list); stop = a .walk
 unfoldable pub printed : Trail → List ℕ
 printed w = text "frame pc sp place\n" ++ frameLines 0 (w .frames) ++ lastLine w
 
--- a report's bytes in, the listing out: "its list holds 256"
+-- a report's bytes in, the listing out, of a walk with room for 256 frames (RULES 8.3)
 unfoldable pub listing : List ℕ → List ℕ
 listing s = either (report s) (λ r. refusedText r ++ text "\n") (λ p. printed (walk (p .inputs) 256 (p .regs)))

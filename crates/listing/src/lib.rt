@@ -1,4 +1,4 @@
-// The listing that the walk program prints, as bytes: a heading, a line for each frame, and why the walk stopped. It neither reads nor
+// The listing of a report, as bytes (RULES 8.3): a heading, a line for each frame, and why the walk stopped. It neither reads nor
 // writes.
 ghost use mathlib.Core.List.{_++_};
 ghost use mathlib.Core.Path.{_≡_};
@@ -23,7 +23,7 @@ use words::Place;
 use words::Refusal;
 use words::Verdict;
 
-// The largest listing.
+// The largest listing (RULES 8.7).
 pub const LISTING_BYTES: usize = 8192;
 
 // The name of a place.

@@ -29,7 +29,7 @@ abbrev through : Lent → Regs → Scan Code → Res Regs
 through k g z = run (step k) (z .list) g >>= λ h. z .ending >> ok h
 
 module _ (k : Lent) (s : List ℕ) (i : CodeBytes) (g : Regs) where
-  -- "the caller after its first code and then after the rest"
+  -- a run is its first code, and a run of those behind it (RULES 3.15)
   pub run-first : (c : Code) (next : CodeBytes) → takeAt s i ≡ One c next → runAt k s i g ≡ (step k c g >>= λ h. runAt k s next h)
   unfolding runAt
   run-first c next e =

@@ -1,4 +1,4 @@
--- Reading and writing one register. Integer registers go by number, LR as 14; SP and pc have no number here.
+-- Reading and writing one register of RULES 1.1. Integer registers go by number, LR as 14; SP and pc have no number here.
 use Prim.Native.Nat.{ℕ}
 use lib.ListN.{getD, set}
 use lib.Dec.{eqb}

@@ -19,7 +19,7 @@ ghost use Rattle.machine.specs.Step.{stands as standsOf, load as loadOf,
 ghost use Rattle.machine.specs.as_coded.Answers.{loaded, loadedTwo, regs, came, Counted};
 ghost use Rattle.machine.specs.as_coded.Run.{runAt, ran};
 
-// r0-r12, SP, LR, pc and d0-d31.
+// The registers of RULES 1.1.
 pub struct Regs {
     pub r: [u32; 13],
     pub sp: u32,
@@ -65,7 +65,7 @@ struct Ended {
     codes: usize,
 }
 
-// What running a code list came to. A refusal gives back the given registers and 0 codes.
+// What a code list came to. A refusal has the registers as they came, and no code counts.
 pub struct Ran {
     pub verdict: Verdict,
     pub regs: Regs,
@@ -107,7 +107,7 @@ fn set_d(d: &mut [u64], x: usize, low: u32, high: u32)
     }
 }
 
-// SP may stand here: a multiple of 4 in base..end, the end allowed.
+// SP may stand here (RULES 9.8).
 pub fn stands(base: u32, stack: &[u8], sp: u64) -> bool
     ensures { λ r. ⌜ r ≡ standsOf (lent base (now (stack .entry))) sp ⌝ }
 {
@@ -125,7 +125,7 @@ pub fn stands(base: u32, stack: &[u8], sp: u64) -> bool
     sp < 4294967296
 }
 
-// The word at an address; a word outside is refused.
+// The word at an address, refused unless all of it is lent (RULES 3.10).
 pub fn load(base: u32, stack: &[u8], at: u64) -> Loaded
     ensures { λ r. ⌜ r ≡ loaded (loadOf (lent base (now (stack .entry))) at) ⌝ }
 {
@@ -156,7 +156,7 @@ fn has(list: u16, x: usize) -> bool
     (list >> x) % 2 == 1
 }
 
-// Pops a list, the lowest register from the lowest address; 14 is its last.
+// Pops a list by rising number, LR as 14 at last (RULES 3.11).
 fn pop(list: u16, r: &mut [u32; 13], sp: u32, lr: u32, base: u32, stack: &[u8]) -> Undone
     ensures { λ u. ⌜ ((pc : ℕ) (d : List ℕ) → came (u .verdict) (regs (now (r .exit)) (u .sp) (u .lr) pc d) ≡ popOf (lent base (now (stack .entry))) list 15 (regs (now (r .entry)) sp lr pc d)) ⌝ }
 {
@@ -186,7 +186,7 @@ fn pop(list: u16, r: &mut [u32; 13], sp: u32, lr: u32, base: u32, stack: &[u8]) 
     }
 }
 
-// Pops dS to dE, the lowest from the lowest address.
+// Pops dS to dE by rising number (RULES 3.12).
 fn vpop(s: u8, e: u8, d: &mut [u64; 32], sp: u32, lr: u32, base: u32, stack: &[u8]) -> Undone
     ensures { λ u. ⌜ ((r : List ℕ) (pc : ℕ) → came (u .verdict) (regs r (u .sp) (u .lr) pc (now (d .exit))) ≡ vpopOf (lent base (now (stack .entry))) s (e + 1 - s) (regs r sp lr pc (now (d .entry)))) ⌝ }
 {
@@ -211,7 +211,7 @@ fn vpop(s: u8, e: u8, d: &mut [u64; 32], sp: u32, lr: u32, base: u32, stack: &[u
     }
 }
 
-// LR takes the word at SP, and SP moves by an amount.
+// LR takes the word at SP, and SP moves by an amount (RULES 3.14).
 fn load_lr(n: StackWords, r: &mut [u32; 13], sp: u32, lr: u32, base: u32, stack: &[u8]) -> Undone
     ensures { λ u. ⌜ ((pc : ℕ) (d : List ℕ) → came (u .verdict) (regs (now (r .exit)) (u .sp) (u .lr) pc d) ≡ effectOf (lent base (now (stack .entry))) (Undo.LoadLr n) (regs (now (r .entry)) sp lr pc d)) ⌝ }
 {
@@ -266,7 +266,7 @@ fn effect(
     }
 }
 
-// One code in place, after which SP must stand in the stack.
+// One code in place, after which SP must stand in the stack (RULES 3.9).
 fn undo_one(
     code: Code,
     r: &mut [u32; 13],
@@ -316,7 +316,7 @@ fn end_here(verdict: Verdict, sp: u32, lr: u32) -> Ended
     }
 }
 
-// Runs the codes from an index on, in place: the caller after a code list is the caller after its first code and then after the rest.
+// Runs the codes from an index on, in place: the one there, and on what it left those behind it (RULES 3.15).
 fn run_on(
     codes: &[u8],
     at: CodeBytes,
@@ -362,7 +362,7 @@ fn stopped(g: Regs, why: Refusal) -> Ran
     }
 }
 
-// Runs the codes from an index on. A refusal gives back the given registers and 0 codes.
+// Runs the codes from an index on. A refusal has the registers as they came, and no code counts.
 pub fn run(codes: &[u8], at: CodeBytes, g: Regs, base: u32, stack: &[u8]) -> Ran
     ensures { λ r. ⌜ r ≡ ran g (length (scan (now (codes .entry)) at .list)) (runAt (lent base (now (stack .entry))) (now (codes .entry)) at g) ⌝ }
 {

@@ -1,4 +1,5 @@
--- The .pdata: 8 bytes a record; word 0 the start RVA, word 1 a packed word or the RVA of an .xdata record.
+-- The .pdata: records of two words, a function's start and its record or the way to one (RULES 2.1), in order (RULES 2.3); and finding in
+-- it (RULES 2.5, 9.55).
 use Prim.Native.Nat.{ℕ, zero, suc, _+_, _-_, _*_, _/_, _%_}
 use mathlib.Core.List.{List, _∷_, map, []}
 use mathlib.Core.Option.{Option, none, some}
@@ -14,7 +15,7 @@ use Rattle.pdata.specs.declared.Found.{Found}
 use Rattle.pdata.specs.declared.Checked.{Checked}
 use Rattle.pdata.specs.declared.Found.the-variants.{Record, Nothing, Refused}
 
--- the record of a number
+-- the record of a number, bit 0 of its start cleared (RULES 1.4)
 abbrev pub entryAt : List ℕ → ℕ → Entry
 entryAt s i = record { number = i; start = even (word32 s (8 * i)); word = word32 s (8 * i + 4) }
 
@@ -30,7 +31,7 @@ entries s = entriesFrom s 0 (length s / 8)
 abbrev pub starts : List ℕ → List ℕ
 starts s = map (λ e. e .start) (entries s)
 
--- "the record with the greatest start not above the pc", which in an ascending table is the last such
+-- the last record that starts at or before an RVA: in an ascending table, of those the one with the greatest start (RULES 2.4)
 unfoldable pub lastUpTo : List Entry → (rva : ℕ) → Option Entry
 lastUpTo [] a = none
 lastUpTo (e ∷ es) a = maybe (lastUpTo es a) (if leb (e .start) a then some e else none) some

@@ -1,4 +1,4 @@
-// The .pdata: its records, its order, and the record for a pc.
+// The .pdata: its records, its order, and the record of a pc.
 use words::Refusal;
 ghost use mathlib.Core.Path.{_≡_};
 ghost use mathlib.Core.Bool.{true};
@@ -17,7 +17,7 @@ pub struct Entry {
     pub word: u32,
 }
 
-// The record for a pc.
+// What finding gives (RULES 2.5).
 pub enum Found {
     Record(Entry),
     Nothing,
@@ -67,7 +67,7 @@ pub fn entry_at(pdata: &[u8], i: usize) -> Entry
     }
 }
 
-// Whether the starts of the whole table strictly ascend.
+// Whether each start in the table is greater than the one before (RULES 2.3).
 pub fn ascending(pdata: &[u8]) -> bool
     ensures { λ r. ⌜ r ≡ ascendingOf (starts (now (pdata .entry))) ⌝ }
 {
@@ -122,7 +122,7 @@ fn refused(why: Refusal) -> Found
     Found::Refused(why)
 }
 
-// Finding in a table that was checked, as a walk does for each frame: 1 for the length, 2, 3, and then the record or none.
+// Finding in a table that was checked, as a walk does for each frame: the tests of RULES 9.55 in order, and then the record or none.
 pub fn find_in(checked: Checked, image: u32, pdata: &[u8], pc: u32) -> Found
     ensures { λ r. ⌜ (checked ≡ checkedOf (now (pdata .entry)) → r ≡ found (findOf image (now (pdata .entry)) pc)) ⌝ }
 {
@@ -153,7 +153,7 @@ pub fn find_rva(pdata: &[u8], rva: u32) -> Found
     search(pdata, rva)
 }
 
-// Finding the record for a pc.
+// Finding by a pc (RULES 2.5).
 pub fn find(image: u32, pdata: &[u8], pc: u32) -> Found
     ensures { λ r. ⌜ r ≡ found (findOf image (now (pdata .entry)) pc) ⌝ }
 {

@@ -1,4 +1,4 @@
--- 4 to 7 for word 1 of a .pdata record, without a pc: its record's view.
+-- 4 to 7 for word 1 of a .pdata record, without a pc (RULES 9.51, 9.52, 9.54): its record's view.
 use Prim.Native.Nat.{ℕ}
 use Rattle.words.specs.Answer.{Res, _>>=_}
 use Rattle.words.specs.Lent.{Lent}

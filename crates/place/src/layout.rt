@@ -27,7 +27,7 @@ ghost use Rattle.codes.specs.Reading.{scanned};
 ghost use Rattle.record.specs.as_coded.Plan.{scopesFrom, shapeBy};
 ghost use Rattle.place.specs.as_coded.Look.{wayRead, wayEnd, hitOf, see as seeOf, lookFrom, judged as judgedOf, unseen as unseenOf};
 
-// Where an epilogue of this size starts in a function of this length.
+// Where an epilogue of this size starts in a function of this length (RULES 5.4).
 fn start_of(start: Start, span: u64, size: u64) -> u64
     requires { ⌜ span < 2 ^ 32 ⌝ }
     ensures { λ r. ⌜ (r ≡ startOf start span size) × (r < 2 ^ 32) ⌝ }
@@ -78,8 +78,8 @@ fn way_of(e: Scope, found: Scanned, span: u64) -> WayOf
     }
 }
 
-// Whether an epilogue from start up to end stands in line: not before floor, inside the function, and, unless it is empty, not before
-// reach.
+// Whether an epilogue from start up to end stands in line (RULES 5.5): not before floor, inside the function, and, unless it is empty,
+// not before reach.
 fn in_line(span: u64, floor: u64, reach: u64, start: u64, end: u64) -> bool
     ensures { λ r. ⌜ r ≡ (leb floor start && leb end span && (leb end start || leb reach start)) ⌝ }
 {

@@ -103,7 +103,7 @@ fn past(o: u64, from: u64) -> u64
     if from <= o { o - from } else { 0 }
 }
 
-// In the prologue: the codes of the instructions not yet done are skipped.
+// In the prologue: skips the codes whose instructions have still to run (RULES 5.8).
 fn in_prologue(codes: &[u8], k: u64) -> Spot
     ensures { λ r. ⌜ r ≡ bySkip Place.Prologue (skipAt (now (codes .entry)) (codeBytes 0) k) ⌝ }
 {
@@ -117,7 +117,7 @@ fn in_prologue(codes: &[u8], k: u64) -> Spot
     }
 }
 
-// In an epilogue: the codes of the instructions done are skipped; 9 before 10.
+// In an epilogue: skips the codes whose instructions have run (RULES 5.9); 9 before 10.
 fn in_epilogue(codes: &[u8], o: u64, w: Way) -> Spot
     ensures { λ r. ⌜ r ≡ inHit (now (codes .entry)) o (Hit.In w) ⌝ }
 {
@@ -151,7 +151,7 @@ fn in_hit(codes: &[u8], o: u64, hit: Hit) -> Spot
     }
 }
 
-// 7, and then the place.
+// 7, and then the place (RULES 5.6).
 fn in_seen(codes: &[u8], p: u64, o: u64, looked: Looked) -> Spot
     ensures { λ r. ⌜ r ≡ inSeen (now (codes .entry)) p o looked ⌝ }
 {

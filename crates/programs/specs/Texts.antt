@@ -1,4 +1,4 @@
--- The text that a program makes of a report.
+-- The text that a program makes of a report (RULES 8.3, 8.6, 8.8).
 use Prim.Native.Nat.{ℕ}
 use mathlib.Core.List.{List}
 use Rattle.listing.specs.Listing.{listing}

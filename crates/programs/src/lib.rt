@@ -1,5 +1,5 @@
-// What the programs share: a report on standard input, or several, and the text that is asked for on standard output. What is read and
-// written, no contract can say; what the text of a report is, `make` says.
+// What the programs share (RULES 8.8 to 8.11): a report on standard input, or several, and the text that is asked for on standard
+// output. What is read and written, no contract can say; what the text of a report is, `make` says.
 ghost use mathlib.Core.Path.{_≡_};
 ghost use Prim.Native.Nat.{_≤_};
 ghost use lib.ListN.{length};

@@ -13,7 +13,7 @@ use Rattle.record.specs.Record.{fullShape, packedShape}
 use Rattle.record.proofs.Opened.{opened}
 use Rattle.words.proofs.Bytes.{bytesOf}
 
--- .pdata: 1 before 2, 2 before 3; 3 looks at the whole table, bit 0 cleared
+-- .pdata (RULES 9.55): 1 before 2, 2 before 3; 3 looks at the whole table, bit 0 cleared
 length-first : find 0x400000 (bytesOf (0x1000 ∷ 0 ∷ 0 ∷ [])) 0x3FFFFE ≡ refuse UnfitInput
 unfolding opened
 length-first = refl
@@ -34,12 +34,12 @@ odd-pc = refl
 abbrev x : List ℕ → Lent
 x s = record { base = 0x1000; bytes = s }
 
--- "first word 5, Vers 4": three bytes, of which the last has Vers
+-- a full record, in the order of RULES 9.52. The first word before Vers: three bytes, of which the last has Vers
 first-word : fullShape (x (0 ∷ 0 ∷ 0x04 ∷ [])) 0x1000 ≡ refuse OutsideXdata
 unfolding opened
 first-word = refl
 
--- "Vers 4, extension word 5"
+-- Vers before the extension word
 vers : fullShape (x (bytesOf (0x00040000 ∷ []))) 0x1000 ≡ refuse Reserved
 unfolding opened
 vers = refl
@@ -48,12 +48,12 @@ extension : fullShape (x (bytesOf (0 ∷ []))) 0x1000 ≡ refuse OutsideXdata
 unfolding opened
 extension = refl
 
--- "its reserved byte 4, whole record 5"
+-- the extension word's bits 24-31 before the whole record
 reserved-byte : fullShape (x (bytesOf (0 ∷ 0x01000001 ∷ []))) 0x1000 ≡ refuse Reserved
 unfolding opened
 reserved-byte = refl
 
--- "whole record 5, scope Res 4": one scope with Res 1, and no code word
+-- the whole record before Res: one scope with Res 1, and no code word
 whole-record : fullShape (x (bytesOf (0x10800010 ∷ 0x00040000 ∷ []))) 0x1000 ≡ refuse OutsideXdata
 unfolding opened
 whole-record = refl
@@ -62,7 +62,7 @@ scope-res : fullShape (x (bytesOf (0x10800010 ∷ 0x00040000 ∷ 0xFF ∷ []))) 
 unfolding opened
 scope-res = refl
 
--- the size routine stops before scope Res, ignores the RVA's low two bits, and gives 1 first
+-- the size routine (RULES 2.13, 9.55) does not look at Res, clears the RVA's bits 0-1, and gives 1 first
 size-stops : xdataSize (x (bytesOf (0x10800010 ∷ 0x00040000 ∷ 0xFF ∷ []))) 0x1003 ≡ ok 12
 unfolding opened
 size-stops = refl
@@ -71,7 +71,7 @@ size-unfit : xdataSize (record { base = 0x1002; bytes = [] }) 0x1000 ≡ refuse 
 unfolding opened
 size-unfit = refl
 
--- 4: Flag 3; Ret=0 and L=0; C=1 and L=0; C=1, R=0 and Reg=7
+-- packed words that cannot be, one for each case of RULES 4.5
 flag-3 : packedShape 0x00900043 ≡ refuse Reserved
 unfolding opened
 flag-3 = refl

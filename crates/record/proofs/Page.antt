@@ -1,4 +1,4 @@
--- The seven examples of Microsoft's page as computed vectors, with the packed forms that document 01 warns of.
+-- The seven examples of Microsoft's page as computed vectors (RULES 11.4), with packed forms that are easily mistaken (RULES 4.12).
 -- Assumes nothing.
 use Prim.Native.Nat.{ℕ, _+_, _^_}
 use mathlib.Core.Path.{_≡_, refl}

@@ -1,4 +1,4 @@
--- The shape of a .pdata record, packed or full.
+-- The shape of a .pdata record, full (RULES 2.6 to 2.12) or packed (RULES 4.17).
 use Prim.Native.Nat.{ℕ, _+_, _-_}
 use mathlib.Core.List.{List, _∷_, []}
 use lib.ListN.{take, drop}
@@ -19,7 +19,7 @@ use Rattle.xdata.specs.Scopes.{scopesAt}
 use Rattle.xdata.specs.declared.Head.{Head}
 use Rattle.pdata.specs.declared.Entry.{Entry}
 
--- an unconditional epilogue that ends at the function's end
+-- the one epilogue of E=1 and of a packed word: of condition 0xE, and it ends where the function does (RULES 2.10, 4.17)
 abbrev pub lastScope : CodeBytes → Scope
 lastScope i = record { start = Ending; condition = always; index = i }
 
@@ -34,14 +34,14 @@ fullShape x a = do
   listed ← scopesAt x (a + h .bytes) (scopeCount h)
   ok (fullOf x a h listed)
 
--- a packed record is the record of the codes that its writer writes, with one epilogue at the function's end unless Ret=3
+-- a packed record is the record of the codes that its writer writes, with that one epilogue unless Ret=3 (RULES 4.17)
 unfoldable pub packedShape : ℕ → Res Shape
 packedShape w = do
   c ← writeCodes w
   let p = fields w
   ok (record { span = halfwordBytes (p .length); codes = c .bytes; fragment = eqb (p .flag) 2; scopes = if eqb (p .ret) 3 then [] else lastScope (c .first) ∷ []; handler = 0 })
 
--- by Flag: 0, the word is the RVA of a full record; else packed
+-- by Flag: with 0 the word leads to a full record, else it is packed (RULES 2.2)
 abbrev pub shapeAt : Lent → (word : ℕ) → Res Shape
 shapeAt x w = if eqb (bits 0 2 w) 0 then fullShape x w else packedShape w
 

@@ -164,7 +164,7 @@ fn after_head(rva: u32, xdata: &[u8], at: u32, h: Head) -> FullOf
     no_full(Refusal::Reserved)
 }
 
-// The full record at an RVA: what its head is refused for, then scope Res 4.
+// The full record at an RVA: what its head is refused for, then its scopes' Res (RULES 9.52).
 pub fn full(rva: u32, xdata: &[u8], at: u32) -> FullOf
     ensures { λ r. ⌜ r ≡ fullAnswer (fullPlan (lent rva (now (xdata .entry))) at) ⌝ }
 {
@@ -176,7 +176,7 @@ pub fn full(rva: u32, xdata: &[u8], at: u32) -> FullOf
     }
 }
 
-// No epilogue for Ret=3, else one.
+// A packed record has no epilogue for Ret=3, else one (RULES 4.7).
 fn packed_epilogues(ret: u32) -> usize
     ensures { λ r. ⌜ r ≡ (if eqb ret 3 then 0 else 1) ⌝ }
 {
@@ -235,7 +235,7 @@ pub fn packed(word: u32) -> PackedOf
     }
 }
 
-// 4 and 5 for word 1 of a .pdata record.
+// 4 and 5 for word 1 of a .pdata record (RULES 9.51, 9.52).
 pub fn judge(rva: u32, xdata: &[u8], word: u32) -> Verdict
     ensures { λ r. ⌜ r ≡ verdict (shapeAt (lent rva (now (xdata .entry))) word) ⌝ }
 {

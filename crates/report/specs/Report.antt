@@ -1,5 +1,4 @@
--- The report file: 'Mark "WLK", version 1 (16 bits), 3 zero bytes; then 32-bit words: image base, .pdata records, xdata RVA, xdata bytes,
--- stack base, stack bytes, r0-r12, SP, LR, pc; d0-d31; then .pdata, .xdata, stack, and nothing more. At most 65,536 bytes.'
+-- The report file: a mark, numbers and registers at the offsets of RULES 8.1, then three parts, which end with the file (RULES 8.2).
 use Prim.Native.Nat.{ℕ, zero, suc, _+_, _*_}
 use mathlib.Core.List.{List, [], _∷_}
 use mathlib.Core.Bool.{Bool, true, false, _&&_}
@@ -33,7 +32,7 @@ words64 s a (suc n) = word64 s a ∷ words64 s (a + 8) n
 abbrev pub part : List ℕ → (at n : ℕ) → List ℕ
 part s a n = take n (drop a s)
 
--- "WLK", version 1, three zero bytes
+-- the letters WLK, the version, zeros
 abbrev pub mark : List ℕ
 mark = 0x57 ∷ 0x4C ∷ 0x4B ∷ 1 ∷ 0 ∷ 0 ∷ 0 ∷ 0 ∷ []
 
@@ -78,7 +77,7 @@ inputsOf s =
 abbrev pub regsOf : List ℕ → Regs
 regsOf s = record { r = words32 s 32 13; sp = word32 s 84; lr = word32 s 88; pc = word32 s 92; d = words64 s 96 32 }
 
--- a report, or 14
+-- a report, or 14 (RULES 8.2)
 unfoldable pub report : List ℕ → Res Report
 report s = do
   need (leb headBytes (length s) && leb (length s) 65536) UnfitReport

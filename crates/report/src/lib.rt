@@ -1,4 +1,4 @@
-// The report file as bytes: its numbers, its registers, and where its parts lie. It neither reads nor writes.
+// The report file as bytes (RULES 8.1): its numbers, its registers, and where its parts lie. It neither reads nor writes.
 ghost use mathlib.Core.Path.{_≡_};
 ghost use Prim.Native.Nat.{_≤_};
 ghost use lib.ListN.{length, take};
@@ -30,7 +30,7 @@ pub struct Parts {
     pub end: usize,
 }
 
-// Whether the file begins with "WLK", version 1, three zero bytes.
+// Whether the file begins with the mark.
 fn marked(file: &[u8]) -> bool
     requires { ⌜ 8 ≤ length (now file) ⌝ }
     ensures { λ r. ⌜ r ≡ same (take 8 (now (file .entry))) mark ⌝ }
@@ -104,7 +104,7 @@ fn unfit() -> Parts
     }
 }
 
-// A report. Its lengths add up to the file's, without wrap.
+// A report, or 14 (RULES 8.2). Its lengths add up to the file's, without wrap.
 pub fn read_report(file: &[u8]) -> Parts
     ensures { λ p. ⌜ p ≡ parts (now (file .entry)) ⌝ }
     ensures { λ p. ⌜ Lie (now (file .entry)) p ⌝ }

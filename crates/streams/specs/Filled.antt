@@ -1,4 +1,4 @@
--- What the contracts of `streams` cite: how many bytes came, and that they lie in the buffer.
+-- What the contracts of `streams` cite: how many bytes came, and that they lie in the buffer (RULES 8.8 to 8.11).
 -- Assumes nothing.
 use Prim.Native.Nat.{ℕ, _≤_, _<_}
 use mathlib.Core.Bool.{Bool, true, false}

@@ -1,5 +1,5 @@
-// Reports that follow one another on a descriptor, each after its length. No contract can say which bytes a read puts into a buffer; how many
-// of them came, and that they lie in the buffer, it can.
+// Reports that follow one another on a descriptor, each after its length (RULES 8.9). No contract can say which bytes a read puts into a
+// buffer; how many of them came, and that they lie in the buffer, it can.
 ghost use mathlib.Core.Path.{_≡_};
 ghost use Prim.Native.Nat.{_≤_};
 ghost use lib.ListN.{length};
@@ -19,8 +19,8 @@ pub struct Filled {
     pub failed: bool,
 }
 
-// What comes next: a report of so many bytes, at the buffer's start; one longer than the buffer, passed over; one inside which the input ended
-// or a read failed (true); or nothing more, because the input ended or a read failed (true).
+// What comes next (RULES 8.9 to 8.11): a report of so many bytes, at the buffer's start; one longer than the buffer, passed over; one
+// inside which the input ended or a read failed (true); or nothing more, because the input ended or a read failed (true).
 pub enum Item {
     Report(usize),
     TooLong,

@@ -1,4 +1,4 @@
--- Text laid over a lent buffer.
+-- Text laid over a lent buffer (RULES 8.7).
 use Prim.Native.Nat.{ℕ, _+_, _-_, _^_, _<_, min}
 use mathlib.Core.Path.{_≡_}
 use mathlib.Core.List.{List, [], _∷_}

@@ -1,4 +1,4 @@
--- Text as bytes: words, and numbers in decimal and in lower-case hexadecimal.
+-- Text as bytes: words, and numbers in decimal and in lower-case hexadecimal (RULES 8.4).
 use Prim.Native.Nat.{ℕ, zero, suc, _+_, _/_, _%_}
 use Prim.Native.Char.{code}
 use Prim.Native.String.{String}

@@ -1,5 +1,5 @@
-// Text into a lent buffer, which is never overrun: what fits is written, and the place counts on, so that the last place tells how
-// much room was needed. Each function takes the place to write at and gives the place after. None asks anything of its caller.
+// Text into a lent buffer, which is never overrun (RULES 8.7): what fits is written, and the place counts on, so that the last place
+// tells how much room was needed. Each function takes the place to write at and gives the place after. None asks anything of its caller.
 ghost use mathlib.Core.List.{[], _∷_, _++_};
 ghost use mathlib.Core.Path.{_≡_};
 ghost use Prim.Native.Nat.{_+_, _<_, _≤_};

@@ -1,4 +1,4 @@
--- An answer, or the first refusal met.
+-- An answer, or the first refusal met (RULES 9).
 use mathlib.Core.Bool.{Bool, true, false}
 use mathlib.Core.Option.{Option, none, some}
 use Rattle.words.specs.declared.Refusal.{Refusal}

@@ -1,4 +1,4 @@
--- Bit fields of a number.
+-- Bit fields of a number, bit 0 the lowest (RULES 1.3).
 use Prim.Native.Nat.{ℕ, _-_, _/_, _%_, _^_}
 use mathlib.Core.Bool.{Bool}
 use lib.Dec.{eqb}
@@ -10,6 +10,6 @@ bits low width w = w / 2 ^ low % 2 ^ width
 abbrev pub bit : ℕ → ℕ → Bool
 bit k w = eqb (bits k 1 w) 1
 
--- "Bit 0 of pc and of a function start is read as 0"
+-- an address without its bit 0, as pcs and function starts are compared (RULES 1.4)
 abbrev pub even : ℕ → ℕ
 even a = a - a % 2

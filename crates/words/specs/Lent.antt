@@ -1,4 +1,4 @@
--- Lent bytes and the address of the first: the stack and its base, the .xdata and its RVA.
+-- Lent bytes and the address of the first (RULES 1.7): the stack and its base, the .xdata and its RVA.
 use Prim.Native.Nat.{ℕ, _+_, _-_}
 use mathlib.Core.List.{List}
 use mathlib.Core.Bool.{Bool, _&&_}

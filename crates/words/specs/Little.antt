@@ -1,4 +1,4 @@
--- "All little-endian": the words at a byte offset of a list of bytes. Whoever cites one has tested that its bytes are there.
+-- The numbers at a byte offset of a list of bytes, lowest byte first (RULES 1.3). Whoever cites one has tested that its bytes are there.
 use Prim.Native.Nat.{ℕ, _+_, _*_, _^_}
 use mathlib.Core.List.{List}
 use lib.ListN.{getD}

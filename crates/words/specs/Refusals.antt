@@ -1,4 +1,4 @@
--- Document 01's number of each refusal, and 0 where nothing is refused.
+-- The number of each refusal, R for that of RULES 9.R, and 0 where nothing is refused.
 use Prim.Native.Nat.{ℕ}
 use Rattle.words.specs.declared.Refusal.{Refusal}
 use Rattle.words.specs.declared.Refusal.the-variants.{UnfitInput, PcBelowBase, StartsNotAscending, Reserved, OutsideXdata, BadCodes, BadLayout, BadStack, InsideInstruction, Conditional, SpFell, NoRecord, SpSame, UnfitReport}

@@ -1,5 +1,4 @@
--- "Function lengths are in halfwords, code indices in bytes and stack amounts in words; they meet in a sum only after a named
--- conversion": each is brought to a number of bytes by name.
+-- The three units, each a type of its own, and the conversions to bytes, each with its name (RULES 1.6).
 use Prim.Native.Nat.{ℕ, _*_}
 use Rattle.words.specs.declared.Halfwords.{Halfwords}
 use Rattle.words.specs.declared.CodeBytes.{CodeBytes}

@@ -1,5 +1,5 @@
-// The vocabulary of document 01 that every other crate speaks: the three units, the refusals, the places; little-endian words of lent
-// bytes. It knows bytes, words and numbers, and neither records nor registers. No function asks anything of its caller.
+// The vocabulary that every other crate speaks: the three units (RULES 1.6), the refusals (RULES 9), the places; little-endian words of
+// lent bytes. It knows bytes, words and numbers, and neither records nor registers. No function asks anything of its caller.
 ghost use mathlib.Core.Path.{_≡_};
 ghost use Prim.Native.Nat.{_+_, _^_, _<_, _≤_};
 ghost use lib.ListN.{length, getD};
@@ -9,47 +9,44 @@ ghost use Rattle.words.specs.Lent.{Lent, lent, holds as holdsOf, wordAt}
 ghost use Rattle.words.specs.Units.{halfwordBytes, stackBytes, codeWordBytes};
 ghost use Rattle.words.specs.Refusals.{number as numberOf, verdictNumber};
 
-// Function lengths and instruction sizes are in halfwords.
+// Two bytes: the unit of lengths of functions, starts of epilogues and sizes of instructions (RULES 1.6).
 pub struct Halfwords(pub u32);
 
-// Code indices and the lengths of code lists are in bytes.
+// The unit of indices into code bytes and of lengths of code lists.
 pub struct CodeBytes(pub usize);
 
-// Stack amounts are in words.
+// Four bytes: the unit of stack amounts.
 pub struct StackWords(pub u32);
 
-// A refusal is given exactly when its line says so.
+// Refusal R is given exactly as RULES 9.R says.
 pub enum Refusal {
-    // 1: .pdata length not a multiple of 8; stack base or length, or xdata RVA, not a multiple of 4; stack end above 2^32 - 4; xdata end
-    // above 2^32
+    // 1: a lent part has a length, an address or an end that will not do (RULES 9.1)
     UnfitInput,
-    // 2: pc below image base
+    // 2: the pc lies before the image (RULES 9.2)
     PcBelowBase,
-    // 3: .pdata starts not strictly ascending
+    // 3: the .pdata is out of order, or has a start twice (RULES 9.3)
     StartsNotAscending,
-    // 4: Flag 3, Vers not 0, scope Res not 0, reserved byte of the extension word not 0; a packed word that cannot be
+    // 4: a record has a reserved value or is a packed word that cannot be; a writer, too, refuses by it (RULES 9.4)
     Reserved,
-    // 5: xdata record not wholly inside the lent .xdata
+    // 5: some byte of a full record is not lent (RULES 9.5)
     OutsideXdata,
-    // 6: from index 0 or an epilogue's index: index past the code bytes, an undefined code, or no end code before the bytes run out. It
-    // holds the undefined code's index, the index that is past the bytes, or the number of bytes where they run out
+    // 6: a code list of the record cannot be read (RULES 9.6); RULES 3.8 says which number it holds
     BadCodes(CodeBytes),
-    // 7: prologue or an epilogue not wholly inside the function; scope starts not strictly ascending; an epilogue shares a halfword with
-    // another or with the prologue
+    // 7: prologue and epilogues do not fit into their function, or not beside one another, or are out of order (RULES 9.7)
     BadLayout,
-    // 8: SP at the start, or after a code, not a multiple of 4 or outside base..end (end allowed); a loaded word outside
+    // 8: SP is where it may not be, or a code loads what is not lent (RULES 9.8)
     BadStack,
-    // 9: pc inside an instruction of the prologue or of an epilogue
+    // 9: the pc is in a prologue or an epilogue, but at no first byte of an instruction (RULES 9.9)
     InsideInstruction,
-    // 10: pc in an epilogue whose condition is not 0xE
+    // 10: the pc is in a conditional epilogue (RULES 9.10)
     Conditional,
-    // 11: caller's SP below the given SP
+    // 11: SP came out lower than it was given (RULES 9.11)
     SpFell,
-    // 12: walk only: a frame after the first has no covering record
+    // 12: a walk came to a caller that no record covers (RULES 9.12)
     NoRecord,
-    // 13: walk only: a frame after the first leaves SP the same
+    // 13: a walk came to a caller that does not move SP (RULES 9.13)
     SpSame,
-    // 14: report file unfit (program only)
+    // 14: a file is no report (RULES 9.14)
     UnfitReport,
 }
 
@@ -210,7 +207,7 @@ pub fn code_word_bytes(n: u32) -> CodeBytes
     CodeBytes(4 * (n as usize))
 }
 
-// Document 01's number of a refusal.
+// The number of a refusal (RULES 9).
 pub fn number(r: Refusal) -> u32
     ensures { λ n. ⌜ n ≡ numberOf r ⌝ }
 {

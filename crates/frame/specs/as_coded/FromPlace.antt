@@ -20,7 +20,7 @@ use Rattle.record.specs.Record.{fullShape, packedShape}
 use Rattle.frame.specs.Frame.{Caller, returned, uncovered, within}
 use Rattle.place.specs.declared.Placed.{Placed}
 
--- 11, and the caller
+-- 11, and the caller (RULES 6.3)
 abbrev pub finish : (handler : ℕ) → (given : Regs) → Place → (codes : ℕ) → Regs → Res Caller
 finish handler g p n h =
     need (leb (g .sp) (h .sp)) SpFell >> ok (record { regs = returned h; place = p; handler = handler; codes = n })

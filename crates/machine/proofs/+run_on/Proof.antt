@@ -13,7 +13,7 @@ use Rattle.codes.specs.Code.{takeAt, seen}
 use Rattle.codes.specs.declared.Taken.the-variants.{One}
 use Rattle.unwinding.proofs.Scanning.{take-next, scan-length}
 use Rattle.codes.proofs.Scanning.{takes}
-use Rattle.machine.specs.Answers.{regs}
+use Rattle.machine.specs.as_coded.Answers.{regs}
 use Rattle.machine.proofs.Answers.{came-given, came-refused, clash}
 use Rattle.machine.proofs.Running.{first-given, first-refused, run-last, run-bad, count-first, count-last}
 use Rattle.machine.proofs.run_on.Reads as run-on

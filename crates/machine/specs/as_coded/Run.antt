@@ -13,14 +13,14 @@ use Rattle.machine.specs.Step.{step}
 use Rattle.machine.specs.declared.Regs.{Regs}
 use Rattle.machine.specs.declared.Ran.{Ran}
 
--- the codes in turn, and then the end code (6 where there is none)
+-- the codes in turn (RULES 3.15), and then the end code (6 where there is none)
 unfoldable pub runAt : Lent → List ℕ → CodeBytes → Regs → Res Regs
 runAt k s i g = do
   h ← run (step k) (scan s i .list) g
   scan s i .ending
   ok h
 
--- the answer: "end codes not counted"; a refusal gives back the given registers and 0 codes
+-- the answer, with the count of RULES 3.16; a refusal has the registers as they came, and no code counts
 abbrev pub ran : (g : Regs) → (count : ℕ) → Res Regs → Ran
 ran g n (ok h) = record { verdict = Given; regs = h; codes = n }
 ran g n (refuse r) = record { verdict = Refused r; regs = g; codes = 0 }

@@ -33,7 +33,7 @@ use Rattle.place.specs.declared.Looked.{Looked}
 use Rattle.place.specs.declared.Looked.the-variants.{All, Bad}
 use Rattle.place.specs.declared.Spot.{Spot}
 
--- an epilogue as its codes make it
+-- an epilogue as its codes make it (RULES 5.4)
 abbrev pub wayOf : (span : ℕ) → Scope → Codes Code → Way
 wayOf span e c =
     let n : ℕ = total size (c .list) + c .endSize in
@@ -47,7 +47,7 @@ abbrev pub wayEnd : WayOf → ℕ
 wayEnd (Made w) = w .start + w .size
 wayEnd (NoWay r) = 0
 
--- it stands in line: not before `floor`, inside the function, and, unless it is empty, not before `reach`
+-- it stands in line (RULES 5.5): not before `floor`, inside the function, and, unless it is empty, not before `reach`
 abbrev pub inLine : (span floor reach : ℕ) → Way → Bool
 inLine span f r w = leb f (w .start) && leb (w .start + w .size) span && (leb (w .start + w .size) (w .start) || leb r (w .start))
 
@@ -91,7 +91,7 @@ bySkip p Nowhere = noSpot InsideInstruction
 abbrev pub skipped : (codes : List ℕ) → Place → CodeBytes → (k : ℕ) → Spot
 skipped s p i k = bySkip p (skipAt s i k)
 
--- in an epilogue: 9 before 10
+-- in an epilogue (RULES 5.9): 9 before 10
 abbrev pub ifAlways : (unconditional : Bool) → Skipped → Spot
 ifAlways true (At i) = spot Epilogue i
 ifAlways false (At i) = noSpot Conditional
@@ -101,7 +101,7 @@ abbrev pub inHit : (codes : List ℕ) → (offset : ℕ) → Hit → Spot
 inHit s o Miss = spot Body (codeBytes 0)
 inHit s o (In w) = ifAlways (executing (w .condition)) (skipAt s (w .index) (o - w .start))
 
--- 7, and then the place
+-- 7, and then the place (RULES 5.6)
 abbrev pub inSeen : (codes : List ℕ) → (prologue offset : ℕ) → Looked → Spot
 inSeen s p o (Bad r) = noSpot r
 inSeen s p o (All seen) =
@@ -109,7 +109,7 @@ inSeen s p o (All seen) =
     then (if ltb o p then skipped s Prologue (codeBytes 0) (p - o) else inHit s o (seen .hit))
     else noSpot BadLayout
 
--- the prologue's size
+-- the prologue's size (RULES 5.3)
 abbrev pub prologueOf : (fragment : Bool) → Codes Code → ℕ
 prologueOf f c = if f then 0 else total size (c .list)
 

@@ -31,7 +31,7 @@ outside = record { verdict = Given; covers = false; place = Leaf; index = codeBy
 abbrev pub covered : (handler : ℕ) → Spot → Placed
 covered h s = record { verdict = s .verdict; covers = true; place = s .place; index = s .index; handler = h }
 
--- by a record's plan and code bytes
+-- by a record's plan and code bytes; its function covers the offset or does not (RULES 5.2)
 abbrev pub spotIn : Plan → (codes xdata : List ℕ) → (offset : ℕ) → Spot
 spotIn p s x o = spotOf s (p .span) (p .fragment) (scopesFrom (p .scopes) x 0 (p .count)) o
 

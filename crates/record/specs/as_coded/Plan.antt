@@ -1,5 +1,5 @@
 -- A record's shape as plain values and parts of slices: the plan of a full record and of a packed one, and the shape that a plan stands
--- for, beside the code bytes and the .xdata.
+-- for, beside the code bytes and the .xdata. That it is the record's shape is a law (`full-shape`, `packed-shape` of proofs/Shapes.antt).
 use Prim.Native.Nat.{ℕ, zero, suc, _+_, _-_, _*_}
 use mathlib.Core.List.{List, _∷_, []}
 use mathlib.Core.Bool.{false}
@@ -55,7 +55,7 @@ abbrev pub fullBy : Lent → ℕ → Head → FullOf
 fullBy x a h =
     record { verdict = Given; plan = planOf x a h; codes = record { start = a - x .base + codesOffset h; len = codeWordBytes (h .codewords) .0 } }
 
--- "scope Res 4" of a head, and then its record
+-- the Res of the scopes behind a head (RULES 9.52), and then its record
 abbrev pub afterHead : Lent → ℕ → Head → Res FullOf
 afterHead x a h = do
   listed ← scopesAt x (a + h .bytes) (scopeCount h)
@@ -74,7 +74,7 @@ abbrev pub fullAnswer : Res FullOf → FullOf
 fullAnswer (ok f) = f
 fullAnswer (refuse r) = record { verdict = Refused r; plan = noPlan; codes = record { start = 0; len = 0 } }
 
--- a packed record: one epilogue at the function's end unless Ret=3
+-- a packed record: one epilogue, which ends with the function, unless Ret=3 (RULES 4.17)
 abbrev pub packedPlanBy : Packed → (first : CodeBytes) → Plan
 packedPlanBy p i =
     record { span = halfwordBytes (p .length); fragment = eqb (p .flag) 2; count = if eqb (p .ret) 3 then 0 else 1; scopes = Ending i; handler = 0 }
