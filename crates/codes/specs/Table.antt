@@ -18,13 +18,12 @@
 -- "All other codes are undefined."
 use Prim.Native.Nat.{ℕ, _+_, _-_, _*_, _^_}
 use mathlib.Core.List.{List, [], _∷_}
-use mathlib.Core.Bool.{_||_}
+use mathlib.Core.Bool.{_&&_, _||_}
 use lib.Dec.{leb, eqb}
 use Rattle.words.specs.declared.Halfwords.{Halfwords}
 use Rattle.words.specs.Units.{halfwords, stackWords}
 use Rattle.words.specs.Bits.{bits}
 use Rattle.words.specs.Answer.{if_then_else_}
-use Rattle.codes.specs.declared.Undo.{Undo}
 use Rattle.codes.specs.declared.Undo.the-variants.{Up, Pop, SpFrom, Vpop, LoadLr, Nothing}
 use Rattle.codes.specs.declared.Meaning.{Meaning}
 use Rattle.codes.specs.declared.Meaning.the-variants.{Does, End, Undefined}
@@ -42,6 +41,10 @@ bits32 = halfwords 2
 -- lists of registers: ra to rb; LR if the bit is set
 abbrev pub range : ℕ → ℕ → ℕ
 range a b = 2 ^ (b + 1) - 2 ^ a
+
+-- r4 to rX, for X from 4 to 11
+abbrev pub fromR4 : ℕ → ℕ
+fromR4 x = if leb 4 x && leb x 11 then range 4 x else 0
 
 abbrev pub lrIf : ℕ → ℕ
 lrIf b = b * 2 ^ 14

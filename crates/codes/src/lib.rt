@@ -6,6 +6,7 @@ use words::CodeBytes;
 use words::Halfwords;
 use words::Refusal;
 use words::StackWords;
+use words::bits;
 use words::halfword_bytes;
 ghost use mathlib.Core.Path.{_≡_};
 ghost use Prim.Native.Nat.{_+_, _≤_, _<_};
@@ -14,7 +15,7 @@ ghost use mathlib.Core.Bool.{_||_};
 ghost use lib.Dec.{leb, eqb};
 ghost use Rattle.words.specs.Units.{codeBytes, stackWords};
 ghost use Rattle.words.specs.Answer.{if_then_else_};
-ghost use Rattle.codes.specs.Table.{rowOf, range, lrIf};
+ghost use Rattle.codes.specs.Table.{rowOf, fromR4, lrIf};
 ghost use Rattle.codes.specs.Code.{value as valueOf, taken as takenOf, takeAt, scan as scanOf};
 ghost use Rattle.codes.specs.Reading.{past, moved, scanned, turn, soFar, more};
 ghost use Rattle.codes.specs.Skip.{skipAt};
@@ -99,14 +100,14 @@ fn vpop(s: u32, e: u32) -> Meaning
     }
 }
 
-// The lists r4-rX, X from 4 to 11.
-const FROM_R4: [u32; 8] = [16, 48, 112, 240, 496, 1008, 2032, 4080];
-
-fn from_r4(n: u32) -> u32
-    requires { ⌜ n < 8 ⌝ }
-    ensures { λ r. ⌜ (r ≡ range 4 (4 + n)) × (r < 8192) ⌝ }
+// The list r4-rX for X from 4 to 11, and no register for others.
+pub fn from_r4(x: u32) -> u32
+    ensures { λ r. ⌜ (r ≡ fromR4 x) × (r < 4096) ⌝ }
 {
-    FROM_R4[n as usize]
+    if 4 <= x && x <= 11 {
+        return (1 << (x + 1)) - 16;
+    }
+    0
 }
 
 // SP = rX, but for X = 13 and X = 15.
@@ -136,19 +137,19 @@ pub fn means(b: u8, v: u32) -> Meaning
     ensures { λ r. ⌜ r ≡ rowOf b .means v ⌝ }
 {
     match b {
-        0x00..=0x7F => up(v % 128),
-        0x80..=0xBF => pop(v % 8192, v / 8192 % 2),
-        0xC0..=0xCF => sp_from(v % 16),
-        0xD0..=0xD7 => pop(from_r4(v % 4), v / 4 % 2),
-        0xD8..=0xDF => pop(from_r4(4 + v % 4), v / 4 % 2),
-        0xE0..=0xE7 => vpop(8, 8 + v % 8),
-        0xE8..=0xEB => up(v % 1024),
-        0xEC..=0xED => pop(v % 256, v / 256 % 2),
-        0xEF => load_lr(v / 16 % 16, v % 16),
-        0xF5 => vpop(v / 16 % 16, v % 16),
-        0xF6 => vpop(16 + v / 16 % 16, 16 + v % 16),
-        0xF7 | 0xF9 => up(v % 65536),
-        0xF8 | 0xFA => up(v % 16777216),
+        0x00..=0x7F => up(bits(v, 0, 7)),
+        0x80..=0xBF => pop(bits(v, 0, 13), bits(v, 13, 1)),
+        0xC0..=0xCF => sp_from(bits(v, 0, 4)),
+        0xD0..=0xD7 => pop(from_r4(4 + bits(v, 0, 2)), bits(v, 2, 1)),
+        0xD8..=0xDF => pop(from_r4(8 + bits(v, 0, 2)), bits(v, 2, 1)),
+        0xE0..=0xE7 => vpop(8, 8 + bits(v, 0, 3)),
+        0xE8..=0xEB => up(bits(v, 0, 10)),
+        0xEC..=0xED => pop(bits(v, 0, 8), bits(v, 8, 1)),
+        0xEF => load_lr(bits(v, 4, 4), bits(v, 0, 4)),
+        0xF5 => vpop(bits(v, 4, 4), bits(v, 0, 4)),
+        0xF6 => vpop(16 + bits(v, 4, 4), 16 + bits(v, 0, 4)),
+        0xF7 | 0xF9 => up(bits(v, 0, 16)),
+        0xF8 | 0xFA => up(bits(v, 0, 24)),
         0xFB | 0xFC => Meaning::Does(Undo::Nothing),
         0xFD | 0xFE | 0xFF => Meaning::End,
         _ => Meaning::Undefined,
