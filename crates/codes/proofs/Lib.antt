@@ -6,6 +6,3 @@ pub mod Meanings
 pub mod Values
 pub mod Taking
 pub mod Scanning
-pub mod Sizes
-pub mod Passing
-pub mod SkipEnds

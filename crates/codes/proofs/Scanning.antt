@@ -14,8 +14,7 @@ use Rattle.words.specs.Answer.{if_then_else_}
 use Rattle.unwinding.specs.Taking.{Taken as AnyTaken, one, last, bad, follow}
 use Rattle.unwinding.proofs.Scanning.{Takes, scan-step}
 use Rattle.codes.specs.Table.{Row, rowOf}
-use Rattle.codes.specs.Code.{size, value, taken, takeFrom, takeAt, seen, taking, bytesOf, scan}
-use Rattle.codes.specs.Reading.{halves}
+use Rattle.codes.specs.Code.{size, value, taken, takeFrom, takeAt, seen, taking, bytesOf, scan, halves}
 use Rattle.codes.specs.declared.Code.{Code}
 use Rattle.codes.specs.declared.Meaning.{Meaning}
 use Rattle.codes.specs.declared.Meaning.the-variants.{Does, End, Undefined}

@@ -20,6 +20,10 @@ use Rattle.codes.specs.declared.Taken.the-variants.{One, Last, Bad}
 abbrev pub size : Code → ℕ
 size c = halfwordBytes (c .size)
 
+-- the size of a code's instruction, in halfwords
+abbrev pub halves : Code → ℕ
+halves c = c .size .0
+
 -- bytes as one number, later bytes lower
 unfoldable pub value : List ℕ → ℕ → ℕ
 value [] v = v

@@ -4,10 +4,8 @@ mod table;
 
 use words::CodeBytes;
 use words::Halfwords;
-use words::Refusal;
 use words::StackWords;
 use words::bits;
-use words::halfword_bytes;
 ghost use mathlib.Core.Path.{_≡_};
 ghost use Prim.Native.Nat.{_+_, _≤_, _<_};
 ghost use lib.ListN.{length, take, drop};
@@ -16,9 +14,7 @@ ghost use lib.Dec.{leb, eqb};
 ghost use Rattle.words.specs.Units.{codeBytes, stackWords};
 ghost use Rattle.words.specs.Answer.{if_then_else_};
 ghost use Rattle.codes.specs.Table.{rowOf, fromR4, lrIf};
-ghost use Rattle.codes.specs.Code.{value as valueOf, taken as takenOf, takeAt, scan as scanOf};
-ghost use Rattle.codes.specs.Reading.{past, moved, scanned, turn, soFar, more};
-ghost use Rattle.codes.specs.Skip.{skipAt};
+ghost use Rattle.codes.specs.Code.{value as valueOf, taken as takenOf, takeAt};
 
 // What a code undoes. Bit k of a list of registers stands for rk, bit 14 for LR.
 pub enum Undo {
@@ -198,148 +194,4 @@ pub fn take_at(codes: &[u8], at: CodeBytes) -> Taken
         return Taken::Bad(CodeBytes(codes.len()));
     }
     take_as(b, value(codes, i, n), at, CodeBytes(i + n))
-}
-
-// "One reader stands on the lent code bytes and moves over them."
-pub struct Reader<'a> {
-    pub codes: &'a [u8],
-    pub at: CodeBytes,
-}
-
-// What a reader took, and the reader behind it.
-pub struct Step<'a> {
-    pub taken: Taken,
-    pub rest: Reader<'a>,
-}
-
-// What stands at an index, and where a reader stands that has taken it.
-struct Moved {
-    taken: Taken,
-    at: CodeBytes,
-}
-
-fn move_at(codes: &[u8], at: CodeBytes) -> Moved
-    ensures { λ r. ⌜ r ≡ moved (takeAt (now (codes .entry)) at) at ⌝ }
-{
-    let taken = take_at(codes, at);
-    match taken {
-        Taken::One(_, next) => Moved { taken, at: next },
-        Taken::Last(_) => Moved { taken, at },
-        Taken::Bad(_) => Moved { taken, at },
-    }
-}
-
-impl<'a> Reader<'a> {
-    pub fn new(codes: &'a [u8], at: CodeBytes) -> Reader<'a>
-        ensures { λ r. ⌜ r ≡ record { codes = codes .entry; at = at } ⌝ }
-    {
-        Reader { codes, at }
-    }
-
-    // Takes one code, and hands the reader on.
-    pub fn take(self) -> Step<'a>
-        ensures { λ s. ⌜ (s .taken ≡ takeAt (now (self .entry .codes)) (self .entry .at))
-            × (s .rest ≡ record { codes = self .entry .codes; at = past (takeAt (now (self .entry .codes)) (self .entry .at)) (self .entry .at) }) ⌝ }
-    {
-        let m = move_at(self.codes, self.at);
-        Step {
-            taken: m.taken,
-            rest: Reader {
-                codes: self.codes,
-                at: m.at,
-            },
-        }
-    }
-}
-
-// What a pass over a code list finds.
-pub enum Scanned {
-    // the halfwords of the list's instructions, and of its end code's instruction
-    Ends(u64, u64),
-    Refused(Refusal),
-}
-
-// A turn of a pass: whether there is more to take, and what is found so far.
-struct Turn {
-    on: bool,
-    found: Scanned,
-}
-
-// Adds what was taken to a pass.
-fn add(s: Scanned, t: Taken) -> Turn
-    requires { ⌜ soFar s + more t < 18446744073709551616 ⌝ }
-    ensures { λ r. ⌜ r ≡ turn s t ⌝ }
-{
-    match s {
-        Scanned::Refused(_) => Turn {
-            on: false,
-            found: s,
-        },
-        Scanned::Ends(h, _) => match t {
-            Taken::One(c, _) => Turn {
-                on: true,
-                found: Scanned::Ends(h + c.size.0 as u64, 0),
-            },
-            Taken::Last(n) => Turn {
-                on: false,
-                found: Scanned::Ends(h, n.0 as u64),
-            },
-            Taken::Bad(i) => Turn {
-                on: false,
-                found: Scanned::Refused(Refusal::BadCodes(i)),
-            },
-        },
-    }
-}
-
-// One pass of a reader over the code list at an index.
-pub fn scan(codes: &[u8], at: CodeBytes) -> Scanned
-    ensures { λ r. ⌜ r ≡ scanned (scanOf (now (codes .entry)) at) ⌝ }
-{
-    let mut r = Reader::new(codes, at);
-    let mut s = Scanned::Ends(0, 0);
-    loop {
-        let t = r.take();
-        let u = add(s, t.taken);
-        s = u.found;
-        if !u.on {
-            break;
-        }
-        r = t.rest;
-    }
-    s
-}
-
-// Where skipping ends.
-pub enum Skipped {
-    At(CodeBytes),
-    Nowhere,
-}
-
-// Skips the codes from an index on whose instructions take n bytes.
-pub fn skip(codes: &[u8], at: CodeBytes, n: u64) -> Skipped
-    ensures { λ r. ⌜ r ≡ skipAt (now (codes .entry)) at n ⌝ }
-{
-    let mut i = at.0;
-    let mut left = n;
-    while left != 0 {
-        let t = take_at(codes, CodeBytes(i));
-        match t {
-            Taken::One(c, next) => {
-                let size = halfword_bytes(c.size);
-                if left < size {
-                    return Skipped::Nowhere;
-                }
-                left -= size;
-                i = next.0;
-            }
-            Taken::Last(_) => {
-                return Skipped::Nowhere;
-            }
-            Taken::Bad(_) => {
-                return Skipped::Nowhere;
-            }
-        }
-    }
-    Skipped::At(CodeBytes(i))
 }

@@ -13,10 +13,10 @@ use Rattle.unwinding.specs.View.{view}
 use Rattle.words.specs.declared.Verdict.the-variants.{Refused as Refuses}
 use Rattle.unwinding.specs.declared.Scope.{Scope}
 use Rattle.codes.specs.declared.Code.{Code}
-use Rattle.codes.specs.declared.Scanned.the-variants.{Ends, Refused}
+use Rattle.reader.specs.declared.Scanned.the-variants.{Ends, Refused}
 use Rattle.codes.specs.Code.{size, scan, codesAt}
-use Rattle.codes.specs.Reading.{scanned}
-use Rattle.codes.proofs.Sizes.{Measured, scanned-ends, scanned-refused, codes-end, codes-refused}
+use Rattle.reader.specs.as_coded.Reading.{scanned}
+use Rattle.reader.proofs.Sizes.{Measured, scanned-ends, scanned-refused, codes-end, codes-refused}
 use Rattle.record.proofs.Shapes.{scopes-next}
 use Rattle.record.specs.as_coded.Plan.{scopeIn, scopesFrom}
 use Rattle.record.specs.declared.Scopes.{Scopes}

@@ -25,12 +25,12 @@ use Rattle.unwinding.specs.Todo.{Todo, left, inExit, inExits, todo}
 use Rattle.unwinding.specs.declared.Scope.{Scope}
 use Rattle.unwinding.proofs.Lined.{lined, next, reachOf, fits-lined}
 use Rattle.codes.specs.declared.Code.{Code}
-use Rattle.codes.specs.declared.Skipped.{Skipped}
-use Rattle.codes.specs.declared.Skipped.the-variants.{At, Nowhere}
+use Rattle.reader.specs.declared.Skipped.{Skipped}
+use Rattle.reader.specs.declared.Skipped.the-variants.{At, Nowhere}
 use Rattle.codes.specs.Code.{size, scan, codesAt}
 use Rattle.codes.specs.Condition.{executing}
-use Rattle.codes.specs.Skip.{skipAt}
-use Rattle.codes.proofs.SkipEnds.{codesBehind, skip-ends, skip-ending}
+use Rattle.reader.specs.as_coded.Skip.{skipAt}
+use Rattle.reader.proofs.SkipEnds.{codesBehind, skip-ends, skip-ending}
 use Rattle.place.specs.as_coded.Look.{wayOf, inLine, hitOf, see, unseen, lookFrom, spot, noSpot, bySkip, skipped, ifAlways, inHit, inSeen, judged, prologueOf, spotOf}
 use Rattle.place.specs.declared.Way.{Way}
 use Rattle.place.specs.declared.Hit.{Hit}

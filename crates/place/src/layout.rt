@@ -4,7 +4,7 @@ use super::Looked;
 use super::Seen;
 use super::Way;
 use super::WayOf;
-use codes::Scanned;
+use reader::Scanned;
 use record::Plan;
 use unwinding::Scope;
 use unwinding::Start;
@@ -23,7 +23,7 @@ ghost use Rattle.words.specs.Answer.{verdict, if_then_else_};
 ghost use Rattle.unwinding.specs.View.{view};
 ghost use Rattle.unwinding.specs.Shape.{startOf};
 ghost use Rattle.codes.specs.Code.{size, codesAt, scan as scanOf};
-ghost use Rattle.codes.specs.Reading.{scanned};
+ghost use Rattle.reader.specs.as_coded.Reading.{scanned};
 ghost use Rattle.record.specs.as_coded.Plan.{scopesFrom, shapeBy};
 ghost use Rattle.place.specs.as_coded.Look.{wayRead, wayEnd, hitOf, see as seeOf, lookFrom, judged as judgedOf, unseen as unseenOf};
 
@@ -46,7 +46,7 @@ fn rescan(codes: &[u8], index: CodeBytes, at: CodeBytes, last: Scanned) -> Scann
     if index.0 == at.0 {
         return last;
     }
-    codes::scan(codes, index)
+    reader::scan(codes, index)
 }
 
 // The bytes of so many halfwords of instructions, as a pass counts them.
@@ -233,7 +233,7 @@ pub fn judge(codes: &[u8], plan: Plan, xdata: &[u8]) -> Verdict
     requires { ⌜ length (now codes) ≤ 1020 ⌝ }
     ensures { λ r. ⌜ r ≡ verdict (view size codesAt (shapeBy plan (now (codes .entry)) (now (xdata .entry)))) ⌝ }
 {
-    let first = codes::scan(codes, CodeBytes(0));
+    let first = reader::scan(codes, CodeBytes(0));
     match first {
         Scanned::Ends(list, _) => {
             let p = prologue_of(plan.fragment, list);

@@ -2,8 +2,8 @@
 // offset, 9 and 10 with one. It knows no registers. The code bytes of a record are at most 255 words.
 mod layout; // the epilogues of a record in one pass
 
-use codes::Scanned;
-use codes::Skipped;
+use reader::Scanned;
+use reader::Skipped;
 use record::Part;
 use record::Plan;
 use words::CodeBytes;
@@ -15,7 +15,7 @@ ghost use mathlib.Core.Bool.{_&&_, _||_};
 ghost use Prim.Native.Nat.{ℕ, _+_, _-_, _^_, _≤_, _<_};
 ghost use lib.ListN.{length};
 ghost use Rattle.words.specs.Units.{codeBytes};
-ghost use Rattle.codes.specs.Skip.{skipAt};
+ghost use Rattle.reader.specs.as_coded.Skip.{skipAt};
 ghost use Rattle.record.specs.as_coded.Plan.{scopesFrom, fullPlan, fullAnswer, packedPlan, packedAnswer};
 ghost use Rattle.place.specs.as_coded.Look.{bySkip, inHit, inSeen, spotOf, noSpot as noSpotOf};
 ghost use Rattle.words.specs.Lent.{lent};
@@ -107,7 +107,7 @@ fn past(o: u64, from: u64) -> u64
 fn in_prologue(codes: &[u8], k: u64) -> Spot
     ensures { λ r. ⌜ r ≡ bySkip Place.Prologue (skipAt (now (codes .entry)) (codeBytes 0) k) ⌝ }
 {
-    match codes::skip(codes, CodeBytes(0), k) {
+    match reader::skip(codes, CodeBytes(0), k) {
         Skipped::At(index) => Spot {
             verdict: Verdict::Given,
             place: Place::Prologue,
@@ -121,7 +121,7 @@ fn in_prologue(codes: &[u8], k: u64) -> Spot
 fn in_epilogue(codes: &[u8], o: u64, w: Way) -> Spot
     ensures { λ r. ⌜ r ≡ inHit (now (codes .entry)) o (Hit.In w) ⌝ }
 {
-    match codes::skip(codes, w.index, past(o, w.start)) {
+    match reader::skip(codes, w.index, past(o, w.start)) {
         Skipped::At(index) => {
             if w.condition == 14 {
                 Spot {
@@ -175,7 +175,7 @@ fn spot_in(codes: &[u8], plan: Plan, xdata: &[u8], o: u64) -> Spot
     requires { ⌜ length (now codes) ≤ 1020 ⌝ }
     ensures { λ r. ⌜ r ≡ spotOf (now (codes .entry)) (plan .span) (plan .fragment) (scopesFrom (plan .scopes) (now (xdata .entry)) 0 (plan .count)) o ⌝ }
 {
-    let first = codes::scan(codes, CodeBytes(0));
+    let first = reader::scan(codes, CodeBytes(0));
     match first {
         Scanned::Ends(list, _) => {
             let p = layout::prologue_of(plan.fragment, list);

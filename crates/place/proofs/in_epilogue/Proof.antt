@@ -4,7 +4,7 @@ use borrow.Author.Tests.{eq-eqb, ne-eqb}
 use borrow.Author.Needs.{needs}
 use Rattle.place.proofs.in_epilogue.Statement.{statement}
 use Rattle.place.proofs.in_epilogue.Tie as tie
-use Rattle.codes.proofs.skip.Reads as skip-reads
+use Rattle.reader.proofs.skip.Reads as skip-reads
 use Rattle.place.proofs.no_spot.Reads as no-spot-reads
 use Rattle.place.proofs.past.Reads as past-reads
 

@@ -3,7 +3,7 @@
 use borrow.Author.Needs.{needs}
 use Rattle.place.proofs.in_prologue.Statement.{statement}
 use Rattle.place.proofs.in_prologue.Tie as tie
-use Rattle.codes.proofs.skip.Reads as skip-reads
+use Rattle.reader.proofs.skip.Reads as skip-reads
 use Rattle.place.proofs.no_spot.Reads as no-spot-reads
 
 skip-requires : tie.Need-skip-requires

@@ -3,14 +3,14 @@
 use mathlib.Core.Path.{_≡_, sym, ap, ap₂, _∙_}
 use native.Mathlib.Omega.{arith}
 use Rattle.words.specs.Units.{codeBytes}
-use Rattle.codes.proofs.Sizes.{scanned-ends}
+use Rattle.reader.proofs.Sizes.{scanned-ends}
 use Rattle.record.specs.as_coded.Plan.{scopesFrom}
 use Rattle.place.proofs.Looking.{spot-made, spot-bad}
 use Rattle.place.specs.as_coded.Look.{lookFrom, unseen, inSeen}
 use borrow.Author.Needs.{needs}
 use Rattle.place.proofs.spot_in.Statement.{statement}
 use Rattle.place.proofs.spot_in.Tie as tie
-use Rattle.codes.proofs.scan.Reads as scan-reads
+use Rattle.reader.proofs.scan.Reads as scan-reads
 use Rattle.place.proofs.in_seen.Reads as in-seen-reads
 use Rattle.place.proofs.layout.look.Reads as look-reads
 use Rattle.place.proofs.no_spot.Reads as no-spot-reads

@@ -18,11 +18,11 @@ use Rattle.unwinding.specs.CodeList.{Codes, total}
 use Rattle.unwinding.specs.Shape.{startOf}
 use Rattle.unwinding.specs.declared.Scope.{Scope}
 use Rattle.codes.specs.declared.Code.{Code}
-use Rattle.codes.specs.declared.Skipped.{Skipped}
-use Rattle.codes.specs.declared.Skipped.the-variants.{At, Nowhere}
+use Rattle.reader.specs.declared.Skipped.{Skipped}
+use Rattle.reader.specs.declared.Skipped.the-variants.{At, Nowhere}
 use Rattle.codes.specs.Code.{size, codesAt}
 use Rattle.codes.specs.Condition.{executing}
-use Rattle.codes.specs.Skip.{skipAt}
+use Rattle.reader.specs.as_coded.Skip.{skipAt}
 use Rattle.place.specs.declared.Way.{Way}
 use Rattle.place.specs.declared.WayOf.{WayOf}
 use Rattle.place.specs.declared.WayOf.the-variants.{Made, NoWay}

@@ -2,14 +2,14 @@
 use mathlib.Core.Path.{sym, ap, _∙_}
 use native.Mathlib.Omega.{arith}
 use Rattle.words.specs.Units.{codeBytes}
-use Rattle.codes.proofs.Sizes.{scanned-ends}
+use Rattle.reader.proofs.Sizes.{scanned-ends}
 use Rattle.record.specs.as_coded.Plan.{scopesFrom, shapeBy}
 use Rattle.place.specs.as_coded.Look.{lookFrom, judged, unseen}
 use Rattle.place.proofs.Looking.{judge-made, judge-bad}
 use borrow.Author.Needs.{needs}
 use Rattle.place.proofs.layout.judge.Statement.{statement}
 use Rattle.place.proofs.layout.judge.Tie as tie
-use Rattle.codes.proofs.scan.Reads as scan-reads
+use Rattle.reader.proofs.scan.Reads as scan-reads
 use Rattle.place.proofs.layout.judged.Reads as judged-reads
 use Rattle.place.proofs.layout.look.Reads as look-reads
 use Rattle.place.proofs.layout.prologue_of.Reads as prologue-of-reads

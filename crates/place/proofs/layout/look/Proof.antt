@@ -8,7 +8,7 @@ use mathlib.Core.List.{[]}
 use borrow.Author.Needs.{needs}
 use Rattle.record.specs.as_coded.Plan.{scopesFrom}
 use Rattle.codes.specs.Code.{scan}
-use Rattle.codes.specs.Reading.{scanned}
+use Rattle.reader.specs.as_coded.Reading.{scanned}
 use Rattle.place.specs.as_coded.Look.{lookFrom}
 use Rattle.record.proofs.Shapes.{scopes-done}
 use Rattle.place.proofs.Looking.{turn-made, turn-bad, look-none}

@@ -3,11 +3,11 @@
 use mathlib.Core.Path.{_≡_, sym, ap, _∙_}
 use Rattle.words.specs.Units.{codeBytes}
 use Rattle.codes.specs.Code.{scan}
-use Rattle.codes.specs.Reading.{scanned}
+use Rattle.reader.specs.as_coded.Reading.{scanned}
 use borrow.Author.Needs.{needs}
 use Rattle.place.proofs.layout.rescan.Statement.{statement}
 use Rattle.place.proofs.layout.rescan.Tie as tie
-use Rattle.codes.proofs.scan.Reads as scan-reads
+use Rattle.reader.proofs.scan.Reads as scan-reads
 
 returns : tie.Need-returns
 returns c =

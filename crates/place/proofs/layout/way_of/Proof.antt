@@ -3,7 +3,7 @@
 use Rattle.place.specs.declared.WayOf.the-variants.{Made}
 use mathlib.Core.Path.{_≡_, sym, ap, _∙_}
 use native.Mathlib.Omega.{arith}
-use Rattle.codes.proofs.Sizes.{scanned-ends}
+use Rattle.reader.proofs.Sizes.{scanned-ends}
 use Rattle.place.proofs.Looking.{way-made, way-bad}
 use borrow.Author.Needs.{needs}
 use Rattle.place.proofs.layout.way_of.Statement.{statement}

@@ -40,30 +40,30 @@ use denote.Triple.Clauses.{ensured, lasts}
 use denote.Triple.Table.{entered, cited}
 use denote.Triple.Walked.{says, Stays, stay-none, walkOf, goes-none, Walks, ends-at, walked, walk-meets}
 use denote.Exit.{yes}
 use Rattle.codes.specs.Code.{takeAt}
-use Rattle.codes.specs.Reading.{moved}
-use Rattle.codes.specs.declared.Reader.{Reader}
-use Rattle.codes.specs.declared.Step.{Step}
-use Rattle.codes.specs.declared.Moved.{Moved}
+use Rattle.reader.specs.as_coded.Reading.{moved}
+use Rattle.reader.specs.declared.Reader.{Reader}
+use Rattle.reader.specs.declared.Step.{Step}
+use Rattle.reader.specs.declared.Moved.{Moved}
 use Rattle.words.specs.declared.CodeBytes.{CodeBytes}
 use Rattle.words.proofs.CodeBytes as Z
 use Rattle.words.proofs.CodeBytes.Laws as Z′
 use Rattle.codes.proofs.Taken as C
 use Rattle.codes.proofs.Taken.Laws as C′
-use Rattle.codes.proofs.Moved as K
-use Rattle.codes.proofs.Moved.Laws as K′
-use Rattle.codes.proofs.Step as P
-use Rattle.codes.proofs.Step.Laws as P′
-use Rattle.codes.proofs.Reader as T
-use Rattle.codes.proofs.Reader.Laws as T′
-use Rattle.codes.proofs.move_at as move-at
-use Rattle.codes.proofs.move_at.Symbol as move-at-def
-use Rattle.codes.proofs.move_at.Symbol.{name as #codes·move-at}
-use Rattle.codes.proofs.move_at.Met as move-at-thm
-use Rattle.codes.proofs.Reader.take.Key.{name as #codes·Reader·take}
-use Rattle.codes.proofs.Reader.take as take
-use Rattle.codes.proofs.Reader.take.Statement as stated
-use Rattle.codes.proofs.Reader.take.Code as code
+use Rattle.reader.proofs.Moved as K
+use Rattle.reader.proofs.Moved.Laws as K′
+use Rattle.reader.proofs.Step as P
+use Rattle.reader.proofs.Step.Laws as P′
+use Rattle.reader.proofs.Reader as T
+use Rattle.reader.proofs.Reader.Laws as T′
+use Rattle.reader.proofs.move_at as move-at
+use Rattle.reader.proofs.move_at.Symbol as move-at-def
+use Rattle.reader.proofs.move_at.Symbol.{name as #reader·move-at}
+use Rattle.reader.proofs.move_at.Met as move-at-thm
+use Rattle.reader.proofs.Reader.take.Key.{name as #reader·Reader·take}
+use Rattle.reader.proofs.Reader.take as take
+use Rattle.reader.proofs.Reader.take.Statement as stated
+use Rattle.reader.proofs.Reader.take.Code as code
 
 -- the struct's type, over the signature's lifetimes
 abbrev B : Lfts 1 → RattleType
@@ -153,7 +153,7 @@ module _ {M : Type 1} (𝓤 : URA M) (H : Heap 𝓤) (A : Atoms 𝓤) (W : Given
       use1 W (‵ (B (κ, tt) .own (h′ (r .at)) (T′.lowered (h′ (r .at)) ∷ []))) (again (r .at) ok) $ nothing ! $ move ! (1 ∷ 0 ∷ []) $ fjoin ! $
       owned ! C.the-row (Is C.the-row) (EL.makes C.the-type C′.the-plain 𝓤 H A) (r .taken) _ is $ fjoin ! $ by ! (own-shut 𝓤 H A W PD PL (r .taken, (h′ (r .at), tt)))
 
-  module _ (C₀ : Calls 𝓤 H) (Λ : Loops 𝓤 H) (fm : FmC 𝓤 H (W .laws) C₀) (known : Triple 𝓤 (C₀ #codes·move-at) (MoveC 𝓤 H A at-mem run)) where
+  module _ (C₀ : Calls 𝓤 H) (Λ : Loops 𝓤 H) (fm : FmC 𝓤 H (W .laws) C₀) (known : Triple 𝓤 (C₀ #reader·move-at) (MoveC 𝓤 H A at-mem run)) where
     walk : Is (B (κ, tt)) h (mach ∷ []) → ent 𝓤 (onEntry 𝓤 H A take.signature (κ, tt) (q, tt) (h, tt) (mach ∷ [], tt)) (WpFn 𝓤 H C₀ Λ code.function (mach ∷ []) Post)
     walk was =
         let wt = LL.lawful D L 𝓤 H A W .typed h _ was .0 in
@@ -177,11 +177,11 @@ module _ {M : Type 1} (𝓤 : URA M) (H : Heap 𝓤) (A : Atoms 𝓤) (W : Given
         drop ! $ by ! (exits r (parts .0) (parts .1 .0) e))))))))))))
 
 module _ {M : Type 1} (𝓤 : URA M) (H : Heap 𝓤) (A : Atoms 𝓤) (W : Given 𝓤 H A) (mem : Memory → SProp 𝓤) (run : Routine → Fun 𝓤) where
-  take-walks : (C₀ : Calls 𝓤 H) (Λ : Loops 𝓤 H) → FmC 𝓤 H (W .laws) C₀ → Triple 𝓤 (C₀ #codes·move-at) (MoveC 𝓤 H A mem run) → Walks 𝓤 H A take.ended stayed (WpFn 𝓤 H C₀ Λ code.function) (take.clauses 𝓤 H A mem run)
+  take-walks : (C₀ : Calls 𝓤 H) (Λ : Loops 𝓤 H) → FmC 𝓤 H (W .laws) C₀ → Triple 𝓤 (C₀ #reader·move-at) (MoveC 𝓤 H A mem run) → Walks 𝓤 H A take.ended stayed (WpFn 𝓤 H C₀ Λ code.function) (take.clauses 𝓤 H A mem run)
   take-walks C₀ Λ fm known = walked 𝓤 H A take.ended stayed (take.clauses 𝓤 H A mem run) (WpFn 𝓤 H C₀ Λ code.function) (λ κs. (LL.vals (T.the-type (namedLft 1 0 tt κs)) (T′.the-laws (namedLft 1 0 tt κs)), tt)) (λ κs. (LL.tells (T.the-type (namedLft 1 0 tt κs)) (T′.the-laws (namedLft 1 0 tt κs)), tt))
       (λ κs qs bounds a g are. via 𝓤 _ (fst∗ 𝓤 _ (emp 𝓤)) (walk 𝓤 H A W mem run (κs .0) (qs .0) (a .0) C₀ Λ fm known (are .0)))
 
-take-meets : {M : Type 1} (𝓤 : URA M) (H : Heap 𝓤) (A : Atoms 𝓤) → Given 𝓤 H A → (mem : Memory → SProp 𝓤) (run : Routine → Fun 𝓤) (𝓣 : Tables 𝓤 H) → Triple 𝓤 (𝓣 .C #codes·move-at) (MoveC 𝓤 H A mem run)
+take-meets : {M : Type 1} (𝓤 : URA M) (H : Heap 𝓤) (A : Atoms 𝓤) → Given 𝓤 H A → (mem : Memory → SProp 𝓤) (run : Routine → Fun 𝓤) (𝓣 : Tables 𝓤 H) → Triple 𝓤 (𝓣 .C #reader·move-at) (MoveC 𝓤 H A mem run)
     → Meets 𝓤 H A take.signature (WpFn 𝓤 H (𝓣 .C) (𝓣 .Λ) code.function) (take.spec 𝓤 H A mem run)
 take-meets 𝓤 H A W mem run 𝓣 known = walk-meets 𝓤 H A take.ended stayed W (goes-none 𝓤 H A W 1 B yes (λ κs x f. refl), tt) (take.clauses 𝓤 H A mem run) (WpFn 𝓤 H (𝓣 .C) (𝓣 .Λ) code.function) (WpFn-mono 𝓤 H (W .laws) 𝓣 code.function)
     (take-walks 𝓤 H A W mem run (𝓣 .C) (𝓣 .Λ) (fmOf 𝓤 H (W .laws) 𝓣) known)
@@ -190,6 +190,6 @@ pub take-spec : {M : Type 1} → stated.statement M
 unfolding code.routine tablesOf
 take-spec 𝓤 H 𝓜 𝓖 𝓡 =
     entered 𝓤 H (tripleOf 𝓤 H (𝓖 .A) take.signature (take.spec 𝓤 H (𝓖 .A) (𝓜 .mem) (𝓡 .run)))
-    (tables 𝓤 H 𝓜 𝓡 code.env .C) (tables 𝓤 H 𝓜 𝓡 code.env .Λ) #codes·Reader·take code.function (code.unfolded 𝓤 H 𝓜 𝓡)
+    (tables 𝓤 H 𝓜 𝓡 code.env .C) (tables 𝓤 H 𝓜 𝓡 code.env .Λ) #reader·Reader·take code.function (code.unfolded 𝓤 H 𝓜 𝓡)
     (take-meets 𝓤 H (𝓖 .A) (givenOf 𝓤 H 𝓜 𝓖) (𝓜 .mem) (𝓡 .run) (tablesOf 𝓤 H 𝓜 (tables 𝓤 H 𝓜 𝓡 code.env))
-    (cited 𝓤 H (MoveC 𝓤 H (𝓖 .A) (𝓜 .mem) (𝓡 .run)) 𝓜 𝓡 code.env #codes·move-at move-at-def.routine code.calls-codes·move-at (move-at-thm.met 𝓤 H 𝓜 𝓖 𝓡)))
+    (cited 𝓤 H (MoveC 𝓤 H (𝓖 .A) (𝓜 .mem) (𝓡 .run)) 𝓜 𝓡 code.env #reader·move-at move-at-def.routine code.calls-reader·move-at (move-at-thm.met 𝓤 H 𝓜 𝓖 𝓡)))

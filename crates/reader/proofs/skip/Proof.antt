@@ -9,11 +9,11 @@ use borrow.Author.Needs.{needs}
 use Rattle.words.specs.Units.{codeBytes}
 use Rattle.unwinding.proofs.Scanning.{take-next}
 use Rattle.unwinding.proofs.Skipping.{skip-none, skip-one, skip-inside, skip-last, skip-bad}
 use Rattle.codes.specs.Code.{seen}
-use Rattle.codes.specs.Skip.{shown, skipAt}
+use Rattle.reader.specs.as_coded.Skip.{shown, skipAt}
 use Rattle.codes.proofs.Scanning.{takes}
-use Rattle.codes.proofs.skip.Statement.{statement}
-use Rattle.codes.proofs.skip.Tie as tie
+use Rattle.reader.proofs.skip.Statement.{statement}
+use Rattle.reader.proofs.skip.Tie as tie
 
 abbrev Inv-loop : tie.InvT-loop
 Inv-loop codes n i₀ left₀ i left = skipAt codes (codeBytes i) left ≡ skipAt codes (codeBytes i₀) n

@@ -48,42 +48,42 @@ use denote.Exit.{yes}
 use Rattle.words.specs.declared.CodeBytes.{CodeBytes}
 use Rattle.words.proofs.CodeBytes as Z
 use Rattle.words.proofs.CodeBytes.Laws as Z′
 use Rattle.codes.specs.declared.Taken.{Taken}
-use Rattle.codes.specs.declared.Reader.{Reader}
-use Rattle.codes.specs.declared.Step.{Step}
-use Rattle.codes.specs.declared.Scanned.{Scanned}
-use Rattle.codes.specs.declared.Scanned.the-variants.{Ends}
-use Rattle.codes.specs.declared.Turn.{Turn}
+use Rattle.reader.specs.declared.Reader.{Reader}
+use Rattle.reader.specs.declared.Step.{Step}
+use Rattle.reader.specs.declared.Scanned.{Scanned}
+use Rattle.reader.specs.declared.Scanned.the-variants.{Ends}
+use Rattle.reader.specs.declared.Turn.{Turn}
 use Rattle.codes.specs.Code.{takeAt, scan}
-use Rattle.codes.specs.Reading.{past, scanned, turn, soFar, more}
+use Rattle.reader.specs.as_coded.Reading.{past, scanned, turn, soFar, more}
 use Rattle.codes.proofs.Taken as C
 use Rattle.codes.proofs.Taken.Laws as C′
-use Rattle.codes.proofs.Step as P
-use Rattle.codes.proofs.Step.Laws as P′
-use Rattle.codes.proofs.Reader as T
-use Rattle.codes.proofs.Reader.Laws as T′
-use Rattle.codes.proofs.Scanned as X
-use Rattle.codes.proofs.Scanned.Laws as X′
-use Rattle.codes.proofs.Turn as Q
-use Rattle.codes.proofs.Turn.Laws as Q′
-use Rattle.codes.proofs.Passing.{Here, starts, adds, ended, room, onto, nearer}
-use Rattle.codes.proofs.Reader.new as new
-use Rattle.codes.proofs.Reader.new.Symbol as new-def
-use Rattle.codes.proofs.Reader.new.Symbol.{name as #codes·Reader·new}
-use Rattle.codes.proofs.Reader.new.Met as new-thm
-use Rattle.codes.proofs.Reader.take as take
-use Rattle.codes.proofs.Reader.take.Symbol as take-def
-use Rattle.codes.proofs.Reader.take.Symbol.{name as #codes·Reader·take}
-use Rattle.codes.proofs.Reader.take.Met as take-thm
-use Rattle.codes.proofs.add as add
-use Rattle.codes.proofs.add.Symbol as add-def
-use Rattle.codes.proofs.add.Symbol.{name as #codes·add}
-use Rattle.codes.proofs.add.Met as add-thm
-use Rattle.codes.proofs.scan.Key.{name as #codes·scan}
-use Rattle.codes.proofs.scan as scan′
-use Rattle.codes.proofs.scan.Statement as stated
-use Rattle.codes.proofs.scan.Code as code
-use Rattle.codes.proofs.scan.Code.Mir as mir
+use Rattle.reader.proofs.Step as P
+use Rattle.reader.proofs.Step.Laws as P′
+use Rattle.reader.proofs.Reader as T
+use Rattle.reader.proofs.Reader.Laws as T′
+use Rattle.reader.proofs.Scanned as X
+use Rattle.reader.proofs.Scanned.Laws as X′
+use Rattle.reader.proofs.Turn as Q
+use Rattle.reader.proofs.Turn.Laws as Q′
+use Rattle.reader.proofs.Passing.{Here, starts, adds, ended, room, onto, nearer}
+use Rattle.reader.proofs.Reader.new as new
+use Rattle.reader.proofs.Reader.new.Symbol as new-def
+use Rattle.reader.proofs.Reader.new.Symbol.{name as #reader·Reader·new}
+use Rattle.reader.proofs.Reader.new.Met as new-thm
+use Rattle.reader.proofs.Reader.take as take
+use Rattle.reader.proofs.Reader.take.Symbol as take-def
+use Rattle.reader.proofs.Reader.take.Symbol.{name as #reader·Reader·take}
+use Rattle.reader.proofs.Reader.take.Met as take-thm
+use Rattle.reader.proofs.add as add
+use Rattle.reader.proofs.add.Symbol as add-def
+use Rattle.reader.proofs.add.Symbol.{name as #reader·add}
+use Rattle.reader.proofs.add.Met as add-thm
+use Rattle.reader.proofs.scan.Key.{name as #codes·scan}
+use Rattle.reader.proofs.scan as scan′
+use Rattle.reader.proofs.scan.Statement as stated
+use Rattle.reader.proofs.scan.Code as code
+use Rattle.reader.proofs.scan.Code.Mir as mir
 
 abbrev stayed : Stays (scan′.ended .signature .params) (scan′.ended .kept)
 stayed = (stay-none-slice (0 ∷ []) tt (plain (λ _. u8)) yes, (stay-none (λ _. Z.the-row) yes, tt))
@@ -207,8 +207,8 @@ module _ {M : Type 1} (𝓤 : URA M) (H : Heap 𝓤) (A : Atoms 𝓤) (W : Given
   added : (x : Scanned) (t : Taken) (u : Turn) → ent 𝓤 (ensured 𝓤 H A add.ended (add.clauses 𝓤 H A mem run) tt (x, (t, tt)) tt u) (fact 𝓤 (u ≡ turn x t))
   added x t u = exE 𝓤 _ (λ ws. snd∗ 𝓤 (sem 𝓤 H A (lasts add.ended tt (x, (t, tt)) ws)) (fact 𝓤 (u ≡ turn x t)))
 
-  module _ (𝓣 : Tables 𝓤 H) (fm : FmC 𝓤 H (W .laws) (𝓣 .C)) (known-new : Triple 𝓤 (𝓣 .C #codes·Reader·new) (NewC 𝓤 H A mem run)) (known-take : Triple 𝓤 (𝓣 .C #codes·Reader·take) (TakeC 𝓤 H A mem run))
-      (known-add : Triple 𝓤 (𝓣 .C #codes·add) (AddC 𝓤 H A mem run)) (gs : Is (ShrSlice (named 0) κ u8) sr (slice-vals sr)) (g₀ : Is Z.the-row i (zv i ∷ [])) where
+  module _ (𝓣 : Tables 𝓤 H) (fm : FmC 𝓤 H (W .laws) (𝓣 .C)) (known-new : Triple 𝓤 (𝓣 .C #reader·Reader·new) (NewC 𝓤 H A mem run)) (known-take : Triple 𝓤 (𝓣 .C #reader·Reader·take) (TakeC 𝓤 H A mem run))
+      (known-add : Triple 𝓤 (𝓣 .C #reader·add) (AddC 𝓤 H A mem run)) (gs : Is (ShrSlice (named 0) κ u8) sr (slice-vals sr)) (g₀ : Is Z.the-row i (zv i ∷ [])) where
     short : length (sr .now) < 2 ^ 63
     short = let z : length (sr .now) * 1 < 2 ^ 63 = gs .0 .1 .1 in omega arith
 
@@ -316,7 +316,7 @@ module _ {M : Type 1} (𝓤 : URA M) (H : Heap 𝓤) (A : Atoms 𝓤) (W : Given
         move ! (2 ∷ []) $ drop ! $ move ! (0 ∷ 2 ∷ []) $ looped l₀ l₁ l₂ l₃ l₄ l₅ l₆ l₇ l₈ l₉))))))))))))))
 
 module _ {M : Type 1} (𝓤 : URA M) (H : Heap 𝓤) (A : Atoms 𝓤) (W : Given 𝓤 H A) (mem : Memory → SProp 𝓤) (run : Routine → Fun 𝓤) (𝓣 : Tables 𝓤 H)
-    (known-new : Triple 𝓤 (𝓣 .C #codes·Reader·new) (NewC 𝓤 H A mem run)) (known-take : Triple 𝓤 (𝓣 .C #codes·Reader·take) (TakeC 𝓤 H A mem run)) (known-add : Triple 𝓤 (𝓣 .C #codes·add) (AddC 𝓤 H A mem run)) where
+    (known-new : Triple 𝓤 (𝓣 .C #reader·Reader·new) (NewC 𝓤 H A mem run)) (known-take : Triple 𝓤 (𝓣 .C #reader·Reader·take) (TakeC 𝓤 H A mem run)) (known-add : Triple 𝓤 (𝓣 .C #reader·add) (AddC 𝓤 H A mem run)) where
   scan-walks : Walks 𝓤 H A scan′.ended stayed (WpFn 𝓤 H (𝓣 .C) (𝓣 .Λ) code.function) (scan′.clauses 𝓤 H A mem run)
   scan-walks = walked 𝓤 H A scan′.ended stayed (scan′.clauses 𝓤 H A mem run) (WpFn 𝓤 H (𝓣 .C) (𝓣 .Λ) code.function)
       (λ κs. (slice-vals, (LL.vals Z.the-type Z′.the-laws, tt))) (λ κs. (shr-slice-tells (named 0) (κs .0) u8, (LL.tells Z.the-type Z′.the-laws, tt)))
@@ -333,6 +333,6 @@ scan-spec 𝓤 H 𝓜 𝓖 𝓡 =
     entered 𝓤 H (tripleOf 𝓤 H (𝓖 .A) scan′.signature (scan′.spec 𝓤 H (𝓖 .A) (𝓜 .mem) (𝓡 .run)))
     (tables 𝓤 H 𝓜 𝓡 code.env .C) (tables 𝓤 H 𝓜 𝓡 code.env .Λ) #codes·scan code.function (code.unfolded 𝓤 H 𝓜 𝓡)
     (scan-meets 𝓤 H (𝓖 .A) (givenOf 𝓤 H 𝓜 𝓖) (𝓜 .mem) (𝓡 .run) (tablesOf 𝓤 H 𝓜 (tables 𝓤 H 𝓜 𝓡 code.env))
-    (cited 𝓤 H (NewC 𝓤 H (𝓖 .A) (𝓜 .mem) (𝓡 .run)) 𝓜 𝓡 code.env #codes·Reader·new new-def.routine code.calls-codes·Reader·new (new-thm.met 𝓤 H 𝓜 𝓖 𝓡))
-    (cited 𝓤 H (TakeC 𝓤 H (𝓖 .A) (𝓜 .mem) (𝓡 .run)) 𝓜 𝓡 code.env #codes·Reader·take take-def.routine code.calls-codes·Reader·take (take-thm.met 𝓤 H 𝓜 𝓖 𝓡))
-    (cited 𝓤 H (AddC 𝓤 H (𝓖 .A) (𝓜 .mem) (𝓡 .run)) 𝓜 𝓡 code.env #codes·add add-def.routine code.calls-codes·add (add-thm.met 𝓤 H 𝓜 𝓖 𝓡)))
+    (cited 𝓤 H (NewC 𝓤 H (𝓖 .A) (𝓜 .mem) (𝓡 .run)) 𝓜 𝓡 code.env #reader·Reader·new new-def.routine code.calls-reader·Reader·new (new-thm.met 𝓤 H 𝓜 𝓖 𝓡))
+    (cited 𝓤 H (TakeC 𝓤 H (𝓖 .A) (𝓜 .mem) (𝓡 .run)) 𝓜 𝓡 code.env #reader·Reader·take take-def.routine code.calls-reader·Reader·take (take-thm.met 𝓤 H 𝓜 𝓖 𝓡))
+    (cited 𝓤 H (AddC 𝓤 H (𝓖 .A) (𝓜 .mem) (𝓡 .run)) 𝓜 𝓡 code.env #reader·add add-def.routine code.calls-reader·add (add-thm.met 𝓤 H 𝓜 𝓖 𝓡)))

@@ -13,15 +13,15 @@ use Rattle.words.specs.Answer.{Res, ok, refuse}
 use Rattle.unwinding.specs.CodeList.{total}
 use Rattle.unwinding.proofs.Ends.{total-empty, total-step}
 use Rattle.unwinding.specs.Taking.{Scan}
-use Rattle.codes.specs.Code.{takeAt, seen, scan}
-use Rattle.codes.specs.Reading.{past, halves, scanned, turn, more}
+use Rattle.codes.specs.Code.{takeAt, seen, scan, halves}
+use Rattle.reader.specs.as_coded.Reading.{past, scanned, turn, more}
 use Rattle.codes.specs.declared.Code.{Code}
 use Rattle.codes.specs.declared.Taken.{Taken}
 use Rattle.codes.specs.declared.Taken.the-variants.{One, Last, Bad}
-use Rattle.codes.specs.declared.Scanned.{Scanned}
-use Rattle.codes.specs.declared.Scanned.the-variants.{Ends, Refused}
+use Rattle.reader.specs.declared.Scanned.{Scanned}
+use Rattle.reader.specs.declared.Scanned.the-variants.{Ends, Refused}
 use Rattle.unwinding.proofs.Scanning.{take-next}
 use Rattle.codes.proofs.Scanning.{takes, take-size, scan-by}
 
 -- with h halfwords before it
 abbrev pub plus : ℕ → Scanned → Scanned

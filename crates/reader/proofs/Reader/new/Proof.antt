@@ -37,13 +37,13 @@ use denote.Exit.{yes}
 use Rattle.words.specs.declared.CodeBytes.{CodeBytes}
 use Rattle.words.proofs.CodeBytes as Z
 use Rattle.words.proofs.CodeBytes.Laws as Z′
-use Rattle.codes.specs.declared.Reader.{Reader}
-use Rattle.codes.proofs.Reader as T
-use Rattle.codes.proofs.Reader.Laws as T′
-use Rattle.codes.proofs.Reader.new.Key.{name as #codes·Reader·new}
-use Rattle.codes.proofs.Reader.new as new
-use Rattle.codes.proofs.Reader.new.Statement as stated
-use Rattle.codes.proofs.Reader.new.Code as code
+use Rattle.reader.specs.declared.Reader.{Reader}
+use Rattle.reader.proofs.Reader as T
+use Rattle.reader.proofs.Reader.Laws as T′
+use Rattle.reader.proofs.Reader.new.Key.{name as #reader·Reader·new}
+use Rattle.reader.proofs.Reader.new as new
+use Rattle.reader.proofs.Reader.new.Statement as stated
+use Rattle.reader.proofs.Reader.new.Code as code
 
 abbrev stayed : Stays (new.ended .signature .params) (new.ended .kept)
 stayed = (stay-none-slice (0 ∷ []) tt (plain (λ _. u8)) yes, (stay-none (λ _. Z.the-row) yes, tt))
@@ -112,5 +112,5 @@ pub new-spec : {M : Type 1} → stated.statement M
 unfolding code.routine tablesOf
 new-spec 𝓤 H 𝓜 𝓖 𝓡 =
     entered 𝓤 H (tripleOf 𝓤 H (𝓖 .A) new.signature (new.spec 𝓤 H (𝓖 .A) (𝓜 .mem) (𝓡 .run)))
-    (tables 𝓤 H 𝓜 𝓡 code.env .C) (tables 𝓤 H 𝓜 𝓡 code.env .Λ) #codes·Reader·new code.function (code.unfolded 𝓤 H 𝓜 𝓡)
+    (tables 𝓤 H 𝓜 𝓡 code.env .C) (tables 𝓤 H 𝓜 𝓡 code.env .Λ) #reader·Reader·new code.function (code.unfolded 𝓤 H 𝓜 𝓡)
     (new-meets 𝓤 H (𝓖 .A) (givenOf 𝓤 H 𝓜 𝓖) (𝓜 .mem) (𝓡 .run) (tablesOf 𝓤 H 𝓜 (tables 𝓤 H 𝓜 𝓡 code.env)))

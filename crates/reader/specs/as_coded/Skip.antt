@@ -1,13 +1,14 @@
--- "skip codes of instructions not yet done, run the rest"; "skip codes of instructions done, run the rest".
+-- Skipping, as code answers it. That what is skipped to is the end of the list that is left is a law (`skip-ends` of
+-- proofs/SkipEnds.antt).
 use Prim.Native.Nat.{ℕ}
 use mathlib.Core.List.{List}
 use mathlib.Core.Option.{Option}
 use Rattle.words.specs.declared.CodeBytes.{CodeBytes}
 use Rattle.words.specs.Answer.{maybe}
 use Rattle.unwinding.specs.Skip as Any
 use Rattle.codes.specs.Code.{size, taking, bytesOf}
-use Rattle.codes.specs.declared.Skipped.{Skipped}
-use Rattle.codes.specs.declared.Skipped.the-variants.{At, Nowhere}
+use Rattle.reader.specs.declared.Skipped.{Skipped}
+use Rattle.reader.specs.declared.Skipped.the-variants.{At, Nowhere}
 
 abbrev pub shown : Option CodeBytes → Skipped
 shown x = maybe x Nowhere At

@@ -1,4 +1,5 @@
--- The reader's moves, and what a pass over a code list finds.
+-- The reader's moves, and what a pass over a code list finds. That a pass finds the list is a law (`codes-end`, `codes-refused` of
+-- proofs/Sizes.antt).
 use Prim.Native.Nat.{ℕ, _+_, _/_}
 use mathlib.Core.Bool.{true, false}
 use Rattle.words.specs.declared.CodeBytes.{CodeBytes}
@@ -6,13 +7,14 @@ use Rattle.words.specs.declared.Refusal.the-variants.{BadCodes}
 use Rattle.words.specs.Answer.{either}
 use Rattle.unwinding.specs.CodeList.{total}
 use Rattle.unwinding.specs.Taking.{Scan}
+use Rattle.codes.specs.Code.{halves}
 use Rattle.codes.specs.declared.Code.{Code}
 use Rattle.codes.specs.declared.Taken.{Taken}
 use Rattle.codes.specs.declared.Taken.the-variants.{One, Last, Bad}
-use Rattle.codes.specs.declared.Moved.{Moved}
-use Rattle.codes.specs.declared.Scanned.{Scanned}
-use Rattle.codes.specs.declared.Scanned.the-variants.{Ends, Refused}
-use Rattle.codes.specs.declared.Turn.{Turn}
+use Rattle.reader.specs.declared.Moved.{Moved}
+use Rattle.reader.specs.declared.Scanned.{Scanned}
+use Rattle.reader.specs.declared.Scanned.the-variants.{Ends, Refused}
+use Rattle.reader.specs.declared.Turn.{Turn}
 
 -- where a reader stands that has taken what stood at an index: past a code, and else where it was
 abbrev pub past : Taken → CodeBytes → CodeBytes
@@ -22,10 +24,6 @@ past (Bad j) i = i
 
 abbrev pub moved : Taken → CodeBytes → Moved
 moved t i = record { taken = t; at = past t i }
-
--- the size of a code's instruction, in halfwords
-abbrev pub halves : Code → ℕ
-halves c = c .size .0
 
 -- the halfwords of a code list's instructions and of its end code's, or refusal 6. A list of any length has fewer than 2 ^ 64
 abbrev pub scanned : Scan Code → Scanned

@@ -15,11 +15,11 @@ use Rattle.unwinding.specs.CodeList.{total}
 use Rattle.unwinding.specs.Taking.{Scan}
 use Rattle.unwinding.proofs.Ends.{total-empty, total-step}
 use Rattle.unwinding.proofs.Scanning.{take-next, by-scan}
-use Rattle.codes.specs.Code.{size, scan, codesAt}
-use Rattle.codes.specs.Reading.{halves, scanned}
+use Rattle.codes.specs.Code.{size, scan, codesAt, halves}
+use Rattle.reader.specs.as_coded.Reading.{scanned}
 use Rattle.codes.specs.declared.Code.{Code}
-use Rattle.codes.specs.declared.Scanned.the-variants.{Ends, Refused}
+use Rattle.reader.specs.declared.Scanned.the-variants.{Ends, Refused}
 use Rattle.codes.proofs.Scanning.{takes, take-size, take-last}
 
 -- sizes in bytes are twice those in halfwords
 pub total-bytes : (cs : List Code) → total size cs ≡ 2 * total halves cs

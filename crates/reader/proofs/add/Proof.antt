@@ -2,9 +2,9 @@
 -- Assumes nothing.
 use mathlib.Core.Path.{refl, sym, ap₂}
 use borrow.Author.Needs.{needs}
-use Rattle.codes.specs.Reading.{turn}
-use Rattle.codes.proofs.add.Statement.{statement}
-use Rattle.codes.proofs.add.Tie as tie
+use Rattle.reader.specs.as_coded.Reading.{turn}
+use Rattle.reader.proofs.add.Statement.{statement}
+use Rattle.reader.proofs.add.Tie as tie
 
 enum-told : tie.Need-enum-told
 enum-told c = search needs

@@ -2,9 +2,9 @@
 -- Assumes nothing.
 use mathlib.Core.Path.{sym, ap, _∙_}
 use borrow.Author.Needs.{needs}
-use Rattle.codes.specs.Reading.{past, moved}
-use Rattle.codes.proofs.move_at.Statement.{statement}
-use Rattle.codes.proofs.move_at.Tie as tie
+use Rattle.reader.specs.as_coded.Reading.{past, moved}
+use Rattle.reader.proofs.move_at.Statement.{statement}
+use Rattle.reader.proofs.move_at.Tie as tie
 
 take-at-requires : tie.Need-take-at-requires
 take-at-requires c κs = search needs

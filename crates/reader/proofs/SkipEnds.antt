@@ -9,12 +9,12 @@ use Rattle.words.specs.declared.CodeBytes.{CodeBytes}
 use Rattle.unwinding.specs.CodeList.{total, endOf}
 use Rattle.unwinding.specs.Skip as Any
 use Rattle.unwinding.proofs.SkipEnds as Law
 use Rattle.codes.specs.Code.{size, taking, bytesOf, scan}
-use Rattle.codes.specs.Skip.{shown, skipAt}
+use Rattle.reader.specs.as_coded.Skip.{shown, skipAt}
 use Rattle.codes.specs.declared.Code.{Code}
-use Rattle.codes.specs.declared.Skipped.{Skipped}
-use Rattle.codes.specs.declared.Skipped.the-variants.{At, Nowhere}
+use Rattle.reader.specs.declared.Skipped.{Skipped}
+use Rattle.reader.specs.declared.Skipped.the-variants.{At, Nowhere}
 use Rattle.codes.proofs.Scanning.{takes}
 
 -- the codes behind what was skipped
 abbrev pub codesBehind : List ℕ → Skipped → Option (List Code)
