@@ -1,35 +1,28 @@
--- Lists of registers: the two tables' entries are the rule's values, each at once, and every list has at most 13 bits.
+-- Lists of registers: the table's entries are the rule's values, each at once, and every list has at most 13 bits.
 -- Assumes nothing.
-use Prim.Native.Nat.{ℕ, zero, suc, _+_, _-_, _*_, _%_, _^_, _≤_, _<_}
-use mathlib.Core.Path.{_≡_, sym, ap, _∙_}
-use mathlib.Core.List.{List, [], _∷_}
+use Prim.Native.Nat.{ℕ, _+_, _-_, _*_, _%_, _^_, _≤_, _<_}
+use mathlib.Core.Path.{_≡_, ap, _∙_}
+use mathlib.Core.List.{[], _∷_}
 use mathlib.Core.Bool.{Bool, true, false}
 use lib.ListN.{getD}
-use lib.Pow.{pow-mono, pow-pos}
+use lib.Pow.{pow-pos}
 use lib.Dec.{eqb}
 use native.Mathlib.Nat.{zero-add}
 use native.Mathlib.Omega.{arith}
 use Rattle.words.specs.Answer.{if_then_else_}
 use Rattle.codes.specs.Table.{range}
 use Rattle.codes.proofs.Entries.{tab, tab-from}
+use Rattle.codes.proofs.Registers.{range-r4}
 use Rattle.packed.specs.Packed.{Fit, integers}
 use Rattle.packed.specs.declared.Packed.{Packed}
 
 tab-at : (g : ℕ → ℕ) (n k : ℕ) → k < n → getD (tab g 0 n) k 0 ≡ g k
 tab-at g n k h = tab-from 0 g 0 n k h ∙ ap g (zero-add k)
 
-pub from-r4 : (x : ℕ) → 4 ≤ x → x < 12 → getD (tab (λ k. range 4 (4 + k)) 0 8) (x - 4) 0 ≡ range 4 x
-from-r4 x h k =
-    let e : 4 + (x - 4) ≡ x = omega arith in
-    tab-at (λ k. range 4 (4 + k)) 8 (x - 4) (omega arith) ∙ ap (range 4) e
-
 pub to-r3 : (k : ℕ) → k < 4 → getD (tab (λ k. range (3 - k) 3) 0 4) k 0 ≡ range (3 - k) 3
 to-r3 k h = tab-at (λ k. range (3 - k) 3) 4 k h
 
--- r4 to r11 are twelve bits, r0 to r3 four
-pub range-r4 : (x : ℕ) → x < 12 → range 4 x < 4096
-range-r4 x h = let l : x + 1 ≤ 12 = omega arith in let m : 2 ^ (x + 1) ≤ 2 ^ 12 = pow-mono l in omega arith
-
+-- r0 to r3 are four bits
 pub range-r3 : (k : ℕ) → range (3 - k) 3 < 16
 range-r3 k = let m : 1 ≤ 2 ^ (3 - k) = pow-pos (3 - k) in omega arith
 
@@ -38,7 +31,7 @@ pub integers-small : (p : Packed) (fold : Bool) → Fit p → integers p fold < 
 integers-small p fold f = go (eqb (p .r) 0) fold
   where
     saved : range 4 (4 + p .reg) < 4096
-    saved = range-r4 (4 + p .reg) (omega (arith, f .reg))
+    saved = range-r4 (4 + p .reg) (omega arith) (omega (arith, f .reg))
 
     go : (s t : Bool) → (if s then range 4 (4 + p .reg) else 0) + (if t then range (3 - p .adjust % 4) 3 else 0) + p .c * 2 ^ 11 < 8192
     go true true = omega (arith, saved, range-r3 (p .adjust % 4), f .c)

@@ -31,21 +31,22 @@ true-fit p f =
     rw (lt-ltb (p .flag) 4 (f .flag), lt-ltb (p .length .0) 2048 (f .length), lt-ltb (p .ret) 4 (f .ret), lt-ltb (p .h) 2 (f .h), lt-ltb (p .reg) 8 (f .reg), lt-ltb (p .r) 2 (f .r), lt-ltb (p .l) 2 (f .l), lt-ltb (p .c) 2 (f .c), lt-ltb (p .adjust) 1024 (f .adjust))
     refl
 
--- what the writer takes fits
-pub writable-fit : (p : Packed) → (fieldsFit p && allowed p) ≡ true → Fit p
-writable-fit p h = fit-true p (both (fieldsFit p) (allowed p) h .0)
-
-pub write-given : (p : Packed) → (fieldsFit p && allowed p) ≡ true → writeWord p ≡ ok (wordOf p)
+pub write-given : (p : Packed) → fieldsFit p ≡ true → allowed p ≡ true → writeWord p ≡ ok (wordOf p)
 unfolding writeWord
-write-given p h = rw h refl
+write-given p f h = rw (f, h) refl
 
-pub write-refused : (p : Packed) → (fieldsFit p && allowed p) ≡ false → writeWord p ≡ refuse Reserved
-unfolding writeWord
-write-refused p h = rw h refl
-
--- "a field too large for its bits" is refused by 4
+-- "a field too large for its bits" is refused by 4, and so are fields that are not allowed
 pub write-large : (p : Packed) → fieldsFit p ≡ false → writeWord p ≡ refuse Reserved
-write-large p h = write-refused p (rw h refl)
+unfolding writeWord
+write-large p h = rw h refl
+
+pub write-not-allowed : (p : Packed) → allowed p ≡ false → writeWord p ≡ refuse Reserved
+unfolding writeWord
+write-not-allowed p h = go (fieldsFit p) refl
+  where
+    go : (t : Bool) → fieldsFit p ≡ t → writeWord p ≡ refuse Reserved
+    go true f = rw (f, h) refl
+    go false f = write-large p f
 
 -- a reader's fields fit
 pub fields-fit : (w : ℕ) → Fit (fields w)
@@ -119,13 +120,14 @@ word-small p f = omega (arith, f .flag, f .length, f .ret, f .h, f .reg, f .r, f
 
 -- the writer and the reader are inverse on what they accept
 pub write-then-read : (p : Packed) (w : ℕ) → writeWord p ≡ ok w → (fields w ≡ p) × (w < 2 ^ 32)
-write-then-read p w h = go (fieldsFit p && allowed p) refl
+write-then-read p w h = go (fieldsFit p) refl (allowed p) refl
   where
-    go : (t : Bool) → (fieldsFit p && allowed p) ≡ t → (fields w ≡ p) × (w < 2 ^ 32)
-    go true e =
-        let word : wordOf p ≡ w = cc (write-given p e) in
-        let f = writable-fit p e in (rw word at (fields-of-word p f), rw word at (word-small p f))
-    go false e = absurd (let z : _≡_ {A = ℕ} 0 1 = cc (write-refused p e) in omega arith)
+    go : (s : Bool) → fieldsFit p ≡ s → (t : Bool) → allowed p ≡ t → (fields w ≡ p) × (w < 2 ^ 32)
+    go true f true e =
+        let word : wordOf p ≡ w = cc (write-given p f e) in
+        let fit = fit-true p f in (rw word at (fields-of-word p fit), rw word at (word-small p fit))
+    go true f false e = absurd (let z : _≡_ {A = ℕ} 0 1 = cc (write-not-allowed p e) in omega arith)
+    go false f t e = absurd (let z : _≡_ {A = ℕ} 0 1 = cc (write-large p f) in omega arith)
 
 pub read-then-write : (w : ℕ) → w < 2 ^ 32 → allowed (fields w) ≡ true → writeWord (fields w) ≡ ok w
-read-then-write w h a = write-given (fields w) (rw (true-fit (fields w) (fields-fit w), a) refl) ∙ ap ok (word-of-fields w h)
+read-then-write w h a = write-given (fields w) (true-fit (fields w) (fields-fit w)) a ∙ ap ok (word-of-fields w h)

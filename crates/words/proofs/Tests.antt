@@ -1,8 +1,9 @@
 -- Tests joined by `&&`, `||` and `if`, by what their parts say.
 -- Assumes nothing.
 use Prim.Native.Nat.{ℕ}
-use mathlib.Core.Path.{_≡_, refl}
+use mathlib.Core.Path.{_≡_, refl, sym, _∙_}
 use mathlib.Core.Bool.{Bool, true, false, _&&_, _||_}
+use mathlib.Core.Logic.{_⊎_, ⊎-elim}
 use lib.Dec.{T}
 use native.Mathlib.Omega.{arith}
 use Rattle.words.specs.Answer.{if_then_else_}
@@ -24,6 +25,14 @@ if-true x y h = rw h refl
 
 pub if-false : {A : Type 0} {b : Bool} (x y : A) → b ≡ false → y ≡ (if b then x else y)
 if-false x y h = rw h refl
+
+-- where the two ways of an `&&` or an `||` meet, the flag is the second test's or still the first's
+module _ {A B : Type 0} {a b f p : Bool} (came : A ⊎ B) (e : a ≡ p) where
+  pub and-joined : (A → (a ≡ true) × (f ≡ b)) → (B → (a ≡ false) × (f ≡ a)) → f ≡ (p && b)
+  and-joined g h = ⊎-elim (λ w. g w .1 ∙ and-true b (sym e ∙ g w .0)) (λ w. h w .1 ∙ h w .0 ∙ and-false b (sym e ∙ h w .0)) came
+
+  pub or-joined : (A → (a ≡ true) × (f ≡ a)) → (B → (a ≡ false) × (f ≡ b)) → f ≡ (p || b)
+  or-joined g h = ⊎-elim (λ w. g w .1 ∙ g w .0 ∙ or-true b (sym e ∙ g w .0)) (λ w. h w .1 ∙ or-false b (sym e ∙ h w .0)) came
 
 -- where two tests hold together, each does
 pub both : (a b : Bool) → (a && b) ≡ true → (a ≡ true) × (b ≡ true)

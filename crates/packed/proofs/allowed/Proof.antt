@@ -1,51 +1,30 @@
--- Each return is the first of the definition's clauses that refuses. Assumes nothing.
-use mathlib.Core.Path.{refl, sym, _∙_}
-use borrow.Author.Tests.{not-true, not-false}
-use borrow.Author.Needs.{needs}
+-- Its tests are joined as the definition joins them. Assumes nothing.
+use mathlib.Core.Path.{_≡_, refl, sym, ap, _∙_}
+use mathlib.Core.Bool.{_&&_, _||_, not}
+use lib.Dec.{eqb}
+use borrow.Author.Tests.{eq-eqb, ne-eqb}
+use Rattle.words.proofs.Tests.{and-true, and-false, and-joined, or-joined}
 use Rattle.packed.proofs.allowed.Statement.{statement}
 use Rattle.packed.proofs.allowed.Tie as tie
 
-is-packed-requires : tie.Need-is-packed-requires
-is-packed-requires c κs = search needs
+-- all but the last
+others :
+    (c : tie.Joined4)
+    → (let p = c .before .before .before .args .p in
+    c .if4 .if6 ≡ ((eqb (p .flag) 1 || eqb (p .flag) 2) && not (eqb (p .ret) 0 && eqb (p .l) 0) && not (eqb (p .c) 1 && eqb (p .l) 0)))
+others c =
+    let e1 = or-joined (c .before .before .if1 .came) refl (λ w. (eq-eqb _ _ (w .0 .taken), w .1)) (λ w. (ne-eqb _ _ (w .0 .left), w .1)) in
+    let e2 = and-joined (c .before .if2 .came) e1 (λ w. (w .0 .taken, w .2 ∙ ap not (and-joined (w .1 .came) refl (λ v. (eq-eqb _ _ (v .0 .taken), v .1)) (λ v. (ne-eqb _ _ (v .0 .left), v .1))))) (λ w. (w .0 .left, w .1)) in
+    and-joined (c .if4 .came) e2 (λ w. (w .0 .taken, w .2 ∙ ap not (and-joined (w .1 .came) refl (λ v. (eq-eqb _ _ (v .0 .taken), v .1)) (λ v. (ne-eqb _ _ (v .0 .left), v .1))))) (λ w. (w .0 .left, w .1))
 
 returns : tie.Need-returns
-returns c = rw (sym (c .before .is-packed .ensures) ∙ not-true _ (c .if1 .taken)) refl
-
-both-requires : tie.Need-both-requires
-both-requires c κs = search needs
+returns c =
+    let e7 = and-joined (c .before .if7 .came) refl (λ w. (eq-eqb _ _ (w .0 .taken), w .1)) (λ w. (ne-eqb _ _ (w .0 .left), w .1)) in
+    let e8 = and-joined (c .if8 .came) e7 (λ w. (w .0 .taken, w .1)) (λ w. (w .0 .left, w .1)) in
+    ap not e8 ∙ and-true _ (sym (others (c .before .before .before)) ∙ c .before .before .if6 .taken)
 
 returns-2 : tie.Need-returns-2
-returns-2 c =
-    rw (sym (c .before .before .before .is-packed .ensures) ∙ not-false _ (c .before .before .if1 .left), sym (c .before .both .ensures) ∙ c .if2 .taken) refl
-
-both-requires-2 : tie.Need-both-requires-2
-both-requires-2 c κs = search needs
-
-returns-3 : tie.Need-returns-3
-returns-3 c =
-    rw (sym (c .before .before .before .before .before .is-packed .ensures) ∙ not-false _ (c .before .before .before .before .if1 .left), sym (c .before .before .before .both .ensures) ∙ c .before .before .if2 .left, sym (c .before .both2 .ensures) ∙ c .if3 .taken) refl
-
-both-requires-3 : tie.Need-both-requires-3
-both-requires-3 c κs = search needs
-
-returns-4 : tie.Need-returns-4
-returns-4 c =
-    rw (sym (c .before .before .before .before .before .before .before .before .is-packed .ensures) ∙ not-false _ (c .before .before .before .before .before .before .before .if1 .left), sym (c .before .before .before .before .before .before .both .ensures) ∙ c .before .before .before .before .before .if2 .left, sym (c .before .before .before .before .both2 .ensures) ∙ c .before .before .before .if3 .left, sym (c .before .before .both3 .ensures) ∙ c .before .if4 .taken) refl
-
-returns-5 : tie.Need-returns-5
-returns-5 c =
-    rw (sym (c .before .before .before .before .before .before .before .is-packed .ensures) ∙ not-false _ (c .before .before .before .before .before .before .if1 .left), sym (c .before .before .before .before .before .both .ensures) ∙ c .before .before .before .before .if2 .left, sym (c .before .before .before .both2 .ensures) ∙ c .before .before .if3 .left, sym (c .before .both3 .ensures) ∙ c .if4 .left) refl
+returns-2 c = c .if6 .left ∙ and-false _ (sym (others (c .before)) ∙ c .if6 .left)
 
 pub allowed-spec : {M : Type 1} → statement M
-allowed-spec =
-    tie.close
-    (tie.spec
-    is-packed-requires
-    returns
-    both-requires
-    returns-2
-    both-requires-2
-    returns-3
-    both-requires-3
-    returns-4
-    returns-5)
+allowed-spec = tie.close (tie.spec returns returns-2)
