@@ -35,7 +35,7 @@ pub write-given : (p : Packed) → fieldsFit p ≡ true → allowed p ≡ true �
 unfolding writeWord
 write-given p f h = rw (f, h) refl
 
--- "a field too large for its bits" is refused by 4, and so are fields that are not allowed
+-- a field that does not fit its bits is refused by 4 (RULES 9.55), and so are fields that are not allowed
 pub write-large : (p : Packed) → fieldsFit p ≡ false → writeWord p ≡ refuse Reserved
 unfolding writeWord
 write-large p h = rw h refl

@@ -1,9 +1,9 @@
--- Packed words.
+-- Packed words (RULES 4.1).
 --
 --   31          22 21 20 19 18  16 15 14  13 12         2 1   0
 --  | Stack Adjust | C| L| R| Reg  | H|  Ret | length / 2 | Flag |
 --
--- Flag 1: packed; 2: packed without prologue.
+-- Flag is 1, or 2 if there is no prologue (RULES 2.2).
 use Prim.Native.Nat.{ℕ, _+_, _-_, _*_, _%_, _^_, _<_}
 use mathlib.Core.Bool.{Bool, _&&_, _||_, not}
 use lib.Dec.{leb, ltb, eqb}
@@ -25,7 +25,7 @@ wordOf p =
     p .flag + 2 ^ 2 * p .length .0 + 2 ^ 13 * p .ret + 2 ^ 15 * p .h + 2 ^ 16 * p .reg + 2 ^ 19 * p .r + 2 ^ 20 * p .l + 2 ^ 21 * p .c
     + 2 ^ 22 * p .adjust
 
--- no "field too large for its bits"
+-- each field fits its bits (RULES 9.55)
 abbrev pub fieldsFit : Packed → Bool
 fieldsFit p =
     ltb (p .flag) (2 ^ 2) && ltb (p .length .0) (2 ^ 11) && ltb (p .ret) (2 ^ 2) && ltb (p .h) 2 && ltb (p .reg) (2 ^ 3) && ltb (p .r) 2
@@ -33,13 +33,13 @@ fieldsFit p =
     && ltb (p .c) 2
     && ltb (p .adjust) (2 ^ 10)
 
--- 4: Flag 3 (and, for a writer, 0); "packed with Ret=0 and L=0, or C=1 and L=0, or C=1, R=0 and Reg=7"
+-- a packed word may have these fields: Flag 1 or 2 (RULES 9.55), and nothing that RULES 4.5 rules out
 abbrev pub allowed : Packed → Bool
 allowed p =
     (eqb (p .flag) 1 || eqb (p .flag) 2) && not (eqb (p .ret) 0 && eqb (p .l) 0) && not (eqb (p .c) 1 && eqb (p .l) 0)
     && not (eqb (p .c) 1 && eqb (p .r) 0 && eqb (p .reg) 7)
 
--- the word's writer
+-- the word's writer (RULES 4.18)
 unfoldable pub writeWord : Packed → Res ℕ
 writeWord p = do
   need (fieldsFit p && allowed p) Reserved
@@ -48,7 +48,7 @@ writeWord p = do
 abbrev pub wordAnswer : Res ℕ → WordOf
 wordAnswer r = record { verdict = verdict r; word = orElse r 0 }
 
--- "Stack Adjust below 0x3F4 is the amount in words, PF = EF = 0. From 0x3F4: amount = low 2 bits + 1, PF = bit 2, EF = bit 3."
+-- what Stack Adjust says: the amount, and whether push (PF) and pop (EF) make it (RULES 4.2)
 abbrev pub folded : Packed → Bool
 folded p = leb 0x3F4 (p .adjust)
 
@@ -61,7 +61,7 @@ PF p = folded p && bit 2 (p .adjust)
 abbrev pub EF : Packed → Bool
 EF p = folded p && bit 3 (p .adjust)
 
--- "Integer list: r4-rN if R=0; rS-r3 if PF (in the epilogue EF); r11 if C; LR if L": all but LR, N = 4 + Reg, S = 3 - (Stack Adjust mod 4)
+-- the integer list but for LR, with what a fold adds to it: PF or EF says whether (RULES 4.3)
 abbrev pub integers : Packed → (fold : Bool) → ℕ
 integers p fold =
     (if eqb (p .r) 0 then range 4 (4 + p .reg) else 0) + (if fold then range (3 - p .adjust % 4) 3 else 0) + p .c * 2 ^ 11

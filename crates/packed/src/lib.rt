@@ -12,7 +12,7 @@ ghost use Rattle.codes.specs.Table.{range};
 ghost use Rattle.words.specs.Answer.{if_then_else_};
 ghost use Rattle.packed.specs.Packed.{Fit, fields as fieldsOf, fieldsFit, allowed as allowedOf, wordOf, writeWord, wordAnswer, folded as foldedOf, amount as amountOf, PF, EF, integers as integersOf};
 
-// The fields of a packed word, as document 01 names them: Flag, length/2, Ret, H, Reg, R, L, C, Stack Adjust.
+// The fields of a packed word: Flag, length / 2, Ret, H, Reg, R, L, C, Stack Adjust (RULES 4.1).
 pub struct Packed {
     pub flag: u32,
     pub length: Halfwords,
@@ -48,7 +48,7 @@ pub fn fields(word: u32) -> Packed
     }
 }
 
-// Whether no field is too large for its bits.
+// Whether each field fits its bits (RULES 9.55).
 fn fields_fit(p: Packed) -> bool
     ensures { λ r. ⌜ r ≡ fieldsFit p ⌝ }
 {
@@ -64,7 +64,7 @@ fn fields_fit(p: Packed) -> bool
         && p.adjust < 1024
 }
 
-// Whether a packed word may have these fields: 4 for Flag 3 or 0; for Ret=0 and L=0; for C=1 and L=0; for C=1, R=0 and Reg=7.
+// Whether a packed word may have these fields: Flag 1 or 2 (RULES 9.55), and nothing that RULES 4.5 rules out.
 pub fn allowed(p: Packed) -> bool
     ensures { λ r. ⌜ r ≡ allowedOf p ⌝ }
 {
@@ -142,7 +142,7 @@ pub fn ef(p: Packed) -> bool
 // rS to r3 for S = 3, 2, 1, 0.
 const TO_R3: [u32; 4] = [8, 12, 14, 15];
 
-// r4-rN if R=0.
+// The integer registers that Reg names, if R=0 (RULES 4.3).
 fn saved(p: Packed) -> u32
     requires { ⌜ Fit p ⌝ }
     ensures { λ r. ⌜ (r ≡ (if eqb (p .r) 0 then range 4 (4 + p .reg) else 0)) × (r < 4096) ⌝ }
@@ -153,7 +153,7 @@ fn saved(p: Packed) -> u32
     0
 }
 
-// rS-r3 if the adjustment is folded, S = 3 - (Stack Adjust mod 4).
+// The registers up to r3 that a folded adjustment adds (RULES 4.3).
 fn homed(adjust: u32, fold: bool) -> u32
     ensures { λ r. ⌜ (r ≡ (if fold then range (3 - adjust % 4) 3 else 0)) × (r < 16) ⌝ }
 {

@@ -1,5 +1,5 @@
--- A packed word's two code lists by their instructions, the prologue's and the epilogue's: what undoes each, and its size. And what code
--- bytes have to be to stand for them.
+-- A packed word's two code lists by their instructions, the prologue's (RULES 4.6) and the epilogue's (RULES 4.7): what undoes each, and
+-- its size. And what code bytes have to be to stand for them.
 use Prim.Native.Nat.{ℕ, _+_, _-_}
 use mathlib.Core.Path.{_≡_}
 use mathlib.Core.Logic.{_≢_}
@@ -29,37 +29,36 @@ only there u n = if there then record { undo = u; size = n } ∷ [] else []
 abbrev pub sizeIf : (narrow : Bool) → Halfwords
 sizeIf narrow = if narrow then bits16 else bits32
 
--- sub and add: "up to 127 words 16 bits", more 32; none where the amount is folded, or 0
+-- sub and add, of a size that goes by the amount (RULES 4.13); none where it is folded, or 0
 abbrev pub ups : Packed → (fold : Bool) → List Code
 ups p fold = only (not fold && not (eqb (amount p .0) 0)) (Up (amount p)) (sizeIf (leb (amount p .0) 127))
 
--- vpush and vpop, of 32 bits: "d8-dE if R=1 and Reg is not 7", E = 8 + Reg
+-- vpush and vpop of the d list (RULES 4.4), of 32 bits
 abbrev pub vpops : Packed → List Code
 vpops p = only (eqb (p .r) 1 && not (eqb (p .reg) 7)) (Vpop 8 (8 + p .reg)) bits32
 
--- push and pop of r0-r12 by their bits, and of LR or PC ("PC is coded as LR") by lr, unless all are 0
+-- push and pop of r0-r12 by their bits, and of LR or PC, which share a bit (RULES 4.9), by lr, unless all are 0
 abbrev pub pops : (narrow : Bool) → (list lr : ℕ) → List Code
 pops narrow l b = only (not (eqb (l + b) 0)) (Pop (l + lrIf b)) (sizeIf narrow)
 
--- "C: a nop, 32 bits always"
+-- what sets r11, if C=1: its code is a nop (RULES 4.6)
 abbrev pub nops : Packed → List Code
 nops p = only (eqb (p .c) 1) Nothing bits32
 
--- "H: 04": push {r0-r3}, or SP + 4 words
+-- if H=1, push {r0-r3} (RULES 4.6), or an add of their four words (RULES 4.10)
 abbrev pub homes : Packed → List Code
 homes p = only (eqb (p .h) 1) (Up (stackWords 4)) bits16
 
--- "Prologue: H: 04. Non-empty list: push. C: a nop, 32 bits always. d list: vpush. Amount not 0 and PF=0: sub." "a push is 16 bits if all
--- are in r0-r7 or LR"
+-- the prologue in its order (RULES 4.6); the size of its push goes by RULES 4.12
 abbrev pub prologue : Packed → List Code
 prologue p = let l : ℕ = integers p (PF p) in homes p ++ pops (low l) l (p .l) ++ nops p ++ vpops p ++ ups p (PF p)
 
--- "Codes stand in reverse, then FF"
+-- its codes, the last one's first (RULES 4.16)
 abbrev pub prologueCodes : Packed → Codes Code
 prologueCodes p = record { list = reverse (prologue p); endSize = 0 }
 
--- the pop and the return. "H=1 and L=1, Ret 0, 1 or 2: LR leaves the list, then EF 05, end FF. Otherwise Ret=0: LR is popped as PC, end
--- FF; Ret 1 or 2: LR, if L, stays in the list; 04 if H; end FD or FE": a branch of 16 or of 32 bits. "a pop with LR is 32"
+-- the pop and the return: by a load (RULES 4.8), by the pop itself (RULES 4.9), or by a branch of 16 or of 32 bits (RULES 4.10), before
+-- which a pop of LR has 32 (RULES 4.12)
 abbrev pub leaving : (loads returns : Bool) → Packed → (list : ℕ) → Codes Code
 leaving true returns p l = record { list = pops (low l) l 0 ++ only true (LoadLr (stackWords 5)) bits32; endSize = 0 }
 leaving false true p l = record { list = pops (low l) l (p .l); endSize = 0 }
@@ -68,7 +67,7 @@ leaving false false p l = record { list = pops (low l && eqb (p .l) 0) l (p .l) 
 abbrev pub leaves : Packed → Codes Code
 leaves p = leaving (eqb (p .h) 1 && eqb (p .l) 1) (eqb (p .ret) 0) p (integers p (EF p))
 
--- "amount not 0 and EF=0: add; vpop; pop of the list if non-empty; return"
+-- the epilogue in its order (RULES 4.7)
 abbrev pub epilogueCodes : Packed → Codes Code
 epilogueCodes p = record { list = ups p (EF p) ++ vpops p ++ leaves p .list; endSize = leaves p .endSize }
 
@@ -78,7 +77,7 @@ pub record Stands (s : List ℕ) (i n : CodeBytes) (c : Codes Code) : Type 0 whe
   pub within : codesAt (take (i .0 + n .0) s) i ≡ ok c
   pub last : codesAt (take (i .0 + n .0 - 1) s) i ≢ ok c
 
--- "16 bytes (first list, second list, the rest 0) and both lengths"; "no list for Ret=3"
+-- code bytes that hold both lists, the second unless Ret=3, with their lengths (RULES 4.16, 4.19)
 pub record Holds (p : Packed) (c : CodesOf) : Type 0 where
   pub first : Stands (c .bytes) (codeBytes 0) (c .first) (prologueCodes p)
   pub second : p .ret ≢ 3 → Stands (c .bytes) (c .first) (c .second) (epilogueCodes p)

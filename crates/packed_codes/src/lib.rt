@@ -20,7 +20,7 @@ ghost use Rattle.packed.specs.Packed.{Fit, fields as fieldsOf, amount as amount
 ghost use Rattle.packed_codes.specs.PackedCodes.{when, upCode, vpopCode, upTo, popSized, popCode, low, firstList, leave as leaveOf, secondList, written, writeCodes, codesAnswer};
 ghost use Rattle.packed_codes.specs.as_coded.Out.{putOf, puts, topOf};
 
-// A packed record's code bytes, first list, second list, the rest 0, and both lengths; all 0 where it is refused.
+// A packed record's code bytes and how long its two lists are (RULES 4.19); all 0 where it is refused.
 pub struct CodesOf {
     pub verdict: Verdict,
     pub bytes: [u8; 16],
@@ -66,7 +66,7 @@ fn put_if(o: Out, bit: u32, b: u8) -> Out
     o
 }
 
-// The code of an amount, if it is not 0: 16 bits up to 127 words.
+// The code of an amount, if it is not 0 (RULES 4.13).
 fn up(o: Out, amount: StackWords) -> Out
     requires { ⌜ amount .0 < 1024 ⌝ }
     ensures { λ r. ⌜ r ≡ puts o (upCode amount) ⌝ }
@@ -92,7 +92,7 @@ fn adjust(o: Out, p: Packed, fold: bool) -> Out
     up(o, amount(p))
 }
 
-// The code of d8-dE, if R=1 and Reg is not 7.
+// The code of the d list, if there is one (RULES 4.4).
 fn vpop(o: Out, p: Packed) -> Out
     requires { ⌜ Fit p ⌝ }
     ensures { λ r. ⌜ r ≡ puts o (vpopCode p) ⌝ }
@@ -171,7 +171,7 @@ fn pop(o: Out, narrow: bool, list: u32, lr: u32) -> Out
     pop32(o, list, lr)
 }
 
-// The prologue's codes in reverse, then FF.
+// The first list: the prologue's codes in reverse, and FF (RULES 4.16).
 fn first_list(o: Out, word: u32) -> Out
     ensures { λ r. ⌜ r ≡ puts o (firstList (fieldsOf word)) ⌝ }
 {
@@ -183,7 +183,7 @@ fn first_list(o: Out, word: u32) -> Out
     put(put_if(o, p.h, 0x04), 0xFF)
 }
 
-// Whether a pop is of 16 bits: one with LR is of 32.
+// Whether a pop has 16 bits, which one of LR never has (RULES 4.12).
 fn narrow(list: u32, lr: u32) -> bool
     ensures { λ r. ⌜ r ≡ (low list && eqb lr 0) ⌝ }
 {
@@ -193,7 +193,7 @@ fn narrow(list: u32, lr: u32) -> bool
     false
 }
 
-// H=1 and L=1: LR leaves the list, then EF 05, end FF.
+// The pop, and the return by a load (RULES 4.8).
 fn leave_loading(o: Out, registers: u32) -> Out
     requires { ⌜ registers < 8192 ⌝ }
     ensures { λ r. ⌜ r ≡ puts o (popCode (low registers) registers 0 ++ (0xEF ∷ 0x05 ∷ 0xFF ∷ [])) ⌝ }
@@ -202,7 +202,7 @@ fn leave_loading(o: Out, registers: u32) -> Out
     put(put(put(o, 0xEF), 0x05), 0xFF)
 }
 
-// Ret 1 or 2: LR, if L, stays in the list; 04 if H; end FD or FE.
+// The pop, and the return by a branch (RULES 4.10).
 fn leave_jumping(o: Out, p: Packed, registers: u32) -> Out
     requires { ⌜ Fit p × (registers < 8192) ⌝ }
     ensures { λ r. ⌜ r ≡ puts o (popCode (low registers && eqb (p .l) 0) registers (p .l) ++ when (eqb (p .h) 1) (0x04 ∷ []) ++ ((0xFC + p .ret) ∷ [])) ⌝ }
@@ -211,7 +211,7 @@ fn leave_jumping(o: Out, p: Packed, registers: u32) -> Out
     put(put_if(o, p.h, 0x04), (0xFC + p.ret) as u8)
 }
 
-// H=1 and L=1.
+// Whether an epilogue returns by a load (RULES 4.8).
 fn loads_lr(h: u32, l: u32) -> bool
     ensures { λ r. ⌜ r ≡ (eqb h 1 && eqb l 1) ⌝ }
 {
@@ -266,7 +266,7 @@ fn both_lists(word: u32) -> CodesOf
     }
 }
 
-// The code bytes of a packed word: first list, second list, the rest 0, and both lengths.
+// The code bytes of a packed word, and how long its two lists are (RULES 4.19).
 pub fn write_codes(word: u32) -> CodesOf
     ensures { λ r. ⌜ r ≡ codesAnswer (writeCodes word) ⌝ }
 {

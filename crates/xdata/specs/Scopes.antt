@@ -1,4 +1,4 @@
--- The scope words of an .xdata record.
+-- The scope words of an .xdata record (RULES 2.9).
 --
 --   31    24 23     20 19 18 17         0
 --  |  Index | Condition | Res | Start / 2 |
@@ -18,7 +18,7 @@ abbrev pub scopeOf : ℕ → Scope
 scopeOf w =
     record { start = From (spanOf w); condition = bits 20 4 w; index = codeBytes (bits 24 8 w) }
 
--- n scope words from an RVA: "scope Res 4"
+-- n scope words from an RVA, each of which has Res 0 (4 else)
 unfoldable pub scopesAt : Lent → (at n : ℕ) → Res (List Scope)
 scopesAt x a zero = ok []
 scopesAt x a (suc n) = do

@@ -1,11 +1,10 @@
--- The head and the size of an .xdata record.
+-- The head and the size of an .xdata record (RULES 2.6 to 2.8, 2.13).
 --
 --   31        28 27   23 22 21 20 19  18 17            0
 --  | Code words | Count | F| E| X| Vers | length / 2     |   word 0
 --  |  reserved  | Code words |        Count              |   word 1, if bits 23-31 of word 0 are all 0: 24-31, 16-23, 0-15
 --
--- "With E=0, count scope words follow. With E=1 the count is the index of one unconditional epilogue that ends at the function's end.
--- Then the codes, then, with X=1, the handler RVA word."
+-- After it come the scope words, none with E=1, the code bytes and, with X=1, the handler (RULES 2.9 to 2.12).
 use Prim.Native.Nat.{ℕ, _+_, _-_, _*_, _%_, _^_}
 use mathlib.Core.Bool.{Bool, _&&_}
 use lib.Dec.{leb, eqb}
@@ -17,7 +16,7 @@ use Rattle.words.specs.Answer.{Res, ok, need, if_then_else_, verdict, orElse, _
 use Rattle.xdata.specs.declared.Head.{Head}
 use Rattle.xdata.specs.declared.SizeOf.{SizeOf}
 
--- 1: "xdata RVA, not a multiple of 4"; "xdata end above 2^32"
+-- what 1 asks of the .xdata (RULES 9.1)
 abbrev pub fitXdata : Lent → Bool
 fitXdata x = eqb (x .base % 4) 0 && leb (end x) (2 ^ 32)
 
@@ -30,7 +29,7 @@ E h = bit 21 (h .word)
 abbrev pub F : Head → Bool
 F h = bit 22 (h .word)
 
--- bytes of the scope words; offsets in the record of its codes and of what follows them; its size
+-- the number of scope words; offsets in the record of its codes and of what follows them; its size (RULES 2.13)
 abbrev pub scopeCount : Head → ℕ
 scopeCount h = if E h then 0 else h .count
 
@@ -43,7 +42,7 @@ handlerOffset h = codesOffset h + codeWordBytes (h .codewords) .0
 abbrev pub recordBytes : Head → ℕ
 recordBytes h = handlerOffset h + (if X h then 4 else 0)
 
--- "extension word 5, its reserved byte 4"
+-- a head with the extension word (RULES 2.8): 5 if that is not lent, then 4
 unfoldable pub longHead : Lent → (at word : ℕ) → Res Head
 longHead x a w = do
   need (holds x a 8) OutsideXdata
@@ -54,7 +53,7 @@ longHead x a w = do
 abbrev pub shortHead : ℕ → Head
 shortHead w = record { word = w; bytes = 4; count = bits 23 5 w; codewords = bits 28 4 w }
 
--- "Full: first word 5, Vers 4, extension word 5, its reserved byte 4, whole record 5"
+-- the head of a record that is lent, all of it: the tests of RULES 9.52 but for Res
 unfoldable pub headAt : Lent → ℕ → Res Head
 headAt x a = do
   need (holds x a 4) OutsideXdata
@@ -64,7 +63,7 @@ headAt x a = do
   need (holds x a (recordBytes h)) OutsideXdata
   ok h
 
--- the size routine: "a record's RVA (low two bits ignored)"
+-- the size routine, which clears bits 0-1 of a record's RVA (RULES 2.13, 9.55)
 unfoldable pub xdataSize : Lent → ℕ → Res ℕ
 xdataSize x a = do
   need (fitXdata x) UnfitInput
@@ -74,7 +73,7 @@ xdataSize x a = do
 abbrev pub sizeAnswer : Res ℕ → SizeOf
 sizeAnswer r = record { verdict = verdict r; bytes = orElse r 0 }
 
--- the function's length in bytes; the handler's RVA, 0 if none
+-- the function's length in bytes (RULES 2.7); the handler's RVA, 0 if there is no word of it (RULES 2.12)
 abbrev pub spanOf : (word : ℕ) → ℕ
 spanOf w = halfwordBytes (halfwords (bits 0 18 w))
 

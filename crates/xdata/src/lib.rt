@@ -55,7 +55,7 @@ fn has_handler(h: Head) -> bool
     h.word / 1048576 % 2 == 1
 }
 
-// E: the count is the index of one epilogue at the function's end.
+// E: there is one epilogue, which has the count for an index (RULES 2.10).
 pub fn has_last(h: Head) -> bool
     ensures { λ r. ⌜ r ≡ E h ⌝ }
 {
@@ -165,7 +165,7 @@ fn short_head(rva: u32, xdata: &[u8], at: u32, word: u32) -> HeadRead
     whole_record(rva, xdata, at, h)
 }
 
-// The head of the record at an RVA: first word 5, Vers 4, extension word 5, its reserved byte 4, whole record 5.
+// The head of the record at an RVA: the tests of RULES 9.52 but for Res.
 pub fn head_at(rva: u32, xdata: &[u8], at: u32) -> HeadRead
     ensures { λ r. ⌜ r ≡ headRead (headAt (lent rva (now (xdata .entry))) at) ⌝ }
 {
@@ -203,7 +203,7 @@ fn size_of(h: Head) -> SizeOf
     }
 }
 
-// The size of the record at an RVA, whose low two bits are ignored.
+// The size of the record at an RVA, of which bits 0-1 are cleared (RULES 2.13).
 pub fn xdata_size(rva: u32, xdata: &[u8], at: u32) -> SizeOf
     ensures { λ r. ⌜ r ≡ sizeAnswer (xdataSize (lent rva (now (xdata .entry))) at) ⌝ }
 {

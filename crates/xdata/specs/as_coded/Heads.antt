@@ -11,7 +11,7 @@ use Rattle.xdata.specs.Xdata.{recordBytes, longHead}
 abbrev pub headRead : Res Head → HeadRead
 headRead r = record { verdict = verdict r; head = orElse r (record { word = 0; bytes = 0; count = 0; codewords = 0 }) }
 
--- what is left to ask of a head: "whole record 5"
+-- what is left to ask of a head: that all of its record is lent (RULES 9.52)
 abbrev pub wholeRecord : Lent → ℕ → Head → Res Head
 wholeRecord x a h = do
   need (holds x a (recordBytes h)) OutsideXdata
