@@ -55,7 +55,7 @@ module _ (b v : ℕ) where
   unfolding rows rowIn
   row-EC l u = run-at at _ 0xEC 2 refl b l u
 
-  -- "All other codes are undefined"
+  -- first bytes of no code (RULES 3.2)
   pub row-EE : 0xEE ≤ b → b < 0xF5 → (b ≡ 0xEF → ⊥) → Undefined ≡ rowOf b .means v
   unfolding rows rowIn
   row-EE l u n = go (eqb b 0xEE) refl

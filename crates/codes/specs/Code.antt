@@ -1,4 +1,4 @@
--- Codes in code bytes: one code, and the list from an index on up to an end code, or refusal 6.
+-- Codes in code bytes: one code, and the list from an index on up to an end code, or refusal 6 (RULES 3.5).
 use Prim.Native.Nat.{ℕ, _+_, _*_}
 use mathlib.Core.List.{List, [], _∷_}
 use lib.ListN.{length, take, drop}
@@ -24,7 +24,7 @@ size c = halfwordBytes (c .size)
 abbrev pub halves : Code → ℕ
 halves c = c .size .0
 
--- bytes as one number, later bytes lower
+-- bytes as one number, the first highest (RULES 3.1)
 unfoldable pub value : List ℕ → ℕ → ℕ
 value [] v = v
 value (b ∷ s) v = value s (256 * v + b)
@@ -35,8 +35,8 @@ taken at r (Does u) = One (record { undo = u; size = r .size }) (codeBytes (at +
 taken at r End = Last (r .size)
 taken at r Undefined = Bad (codeBytes at)
 
--- the code at the front of the bytes that are left, the first of which has index `at`. Refusal 6 holds the index of an undefined code's
--- first byte, and the number of all bytes where a code is cut short
+-- the code at the front of the bytes that are left, the first of which has index `at`. Refusal 6 holds the number of RULES 3.8: where an
+-- undefined code begins, or how many bytes there are if a code lacks some
 unfoldable pub takeFrom : (at : ℕ) → (left : List ℕ) → Taken
 takeFrom at [] = Bad (codeBytes at)
 takeFrom at (b ∷ s) =

@@ -1,9 +1,9 @@
--- The condition under which an epilogue executes.
+-- The condition under which an epilogue executes (RULES 9.10).
 use Prim.Native.Nat.{ℕ}
 use mathlib.Core.Bool.{Bool}
 use lib.Dec.{eqb}
 
--- the condition "always"
+-- the condition of what always executes
 abbrev pub always : ℕ
 always = 0xE
 

@@ -1,21 +1,5 @@
--- Document 01's table of the unwind codes, row by row.
---
--- | Code           | Bits         | Undo                                            |
--- | 00-7F          | 16           | SP + 4 x low 7 bits                             |
--- | 80-BF xx       | 32           | pop r0-r12 by low 13 bits, LR by bit 13         |
--- | C0-CF          | 16           | SP = rX, X low 4 bits; X = 13, 15 undefined here |
--- | D0-D7          | 16           | pop r4-rX, X = 4 + low 2 bits; LR by bit 2      |
--- | D8-DF          | 32           | the same, X = 8 + low 2 bits                    |
--- | E0-E7          | 32           | vpop d8-dX, X = 8 + low 3 bits                  |
--- | E8-EB xx       | 32           | SP + 4 x low 10 bits                            |
--- | EC-ED xx       | 16           | pop r0-r7 by low 8 bits, LR by bit 8            |
--- | EF 00-0F       | 32           | load LR at SP, then SP + 4 x low 4 bits         |
--- | F5 / F6 xx     | 32           | vpop dS-dE, S high, E low 4 bits (F6: both + 16); S > E undefined |
--- | F7 / F9, 2 more | 16 / 32     | SP + 4 x 16 bits                                |
--- | F8 / FA, 3 more | 16 / 32     | SP + 4 x 24 bits                                |
--- | FB / FC        | 16 / 32      | nothing                                         |
--- | FD / FE / FF   | 16 / 32 / none | end; the size counts only in an epilogue      |
--- "All other codes are undefined."
+-- The unwind codes, row by row as in RULES 3.2. A row is for the first bytes after the row before it, up to its own last one; each of F5 to
+-- FF has a row of its own.
 use Prim.Native.Nat.{ℕ, _+_, _-_, _*_, _^_}
 use mathlib.Core.List.{List, [], _∷_}
 use mathlib.Core.Bool.{_&&_, _||_}
@@ -50,7 +34,7 @@ abbrev pub lrIf : ℕ → ℕ
 lrIf b = b * 2 ^ 14
 
 -- a row: the last first byte that it is for, the code's bytes, its instruction's size, and the meaning of the code's value, which is
--- its bytes as one number ("Later bytes of a code are the lower bits")
+-- its bytes as one number, the first byte highest (RULES 3.1)
 pub record Row : Type 0 where
   pub last : ℕ
   pub bytes : ℕ

@@ -1,4 +1,4 @@
-// The unwind codes of document 01: what each means, how many bytes it has, which size its instruction has. It knows neither registers'
+// The unwind codes (RULES 3.2): what each means, how many bytes it has, which size its instruction has. It knows neither registers'
 // values nor records.
 mod table;
 
@@ -18,15 +18,15 @@ ghost use Rattle.codes.specs.Code.{value as valueOf, taken as takenOf, t
 
 // What a code undoes. Bit k of a list of registers stands for rk, bit 14 for LR.
 pub enum Undo {
-    // SP + 4 x this
+    // SP rises by so many words
     Up(StackWords),
-    // pop the list, the lowest register from the lowest address
+    // the registers of the list are popped (RULES 3.11)
     Pop(u16),
-    // SP = rX
+    // SP becomes rX
     SpFrom(u8),
-    // vpop dS-dE
+    // dS to dE are popped
     Vpop(u8, u8),
-    // load LR at SP, then SP + 4 x this
+    // LR takes the word at SP, and SP rises by so many words (RULES 3.14)
     LoadLr(StackWords),
     // a nop
     Nothing,
@@ -69,7 +69,7 @@ pub fn instruction_size(b: u8) -> Halfwords
     Halfwords(table::SIZES[b as usize] as u32)
 }
 
-// SP + 4 x n.
+// SP rises by n words.
 fn up(n: u32) -> Meaning
     ensures { λ r. ⌜ r ≡ Meaning.Does (Undo.Up (stackWords n)) ⌝ }
 {
@@ -117,7 +117,7 @@ fn sp_from(x: u32) -> Meaning
     }
 }
 
-// Load LR at SP, then SP + 4 x low; the bits above must be 0.
+// LR takes the word at SP, and SP rises by `low` words; the bits above must be 0.
 fn load_lr(high: u32, low: u32) -> Meaning
     ensures { λ r. ⌜ r ≡ (if eqb high 0 then Meaning.Does (Undo.LoadLr (stackWords low)) else Meaning.Undefined) ⌝ }
 {
@@ -128,7 +128,7 @@ fn load_lr(high: u32, low: u32) -> Meaning
     }
 }
 
-// What a code means, by its first byte and its value, which is its bytes as one number: the rows of document 01's table.
+// What a code means, by its first byte and its value, which is its bytes as one number: the rows of RULES 3.2.
 pub fn means(b: u8, v: u32) -> Meaning
     ensures { λ r. ⌜ r ≡ rowOf b .means v ⌝ }
 {
@@ -152,7 +152,7 @@ pub fn means(b: u8, v: u32) -> Meaning
     }
 }
 
-// The n bytes from a place as one number, later bytes lower.
+// The n bytes from a place as one number, the first highest (RULES 3.1).
 fn value(codes: &[u8], at: usize, n: usize) -> u32
     requires { ⌜ (at + n ≤ length (now codes)) × (n ≤ 4) ⌝ }
     ensures { λ r. ⌜ r ≡ valueOf (take n (drop at (now (codes .entry)))) 0 ⌝ }

@@ -1,5 +1,5 @@
-// "A table of 256 entries gives, for each first byte, the code's bytes and its instruction's size": computed from the table of document
-// 01, and compared with it entry by entry where the proofs read it.
+// The two constant tables of RULES 3.3, by first byte: computed from the rows of RULES 3.2, and compared with them entry by entry where
+// the proofs read them.
 
 // The bytes of a code with that first byte.
 pub const CODE_BYTES: [u8; 256] = [

@@ -12,7 +12,7 @@ ghost use Rattle.codes.specs.Code.{takeAt, scan as scanOf};
 ghost use Rattle.reader.specs.as_coded.Reading.{past, moved, scanned, turn, soFar, more};
 ghost use Rattle.reader.specs.as_coded.Skip.{skipAt};
 
-// It stands on lent code bytes and moves over them.
+// The reader of RULES 3.6: the code bytes, which are lent, and the index that it has come to.
 pub struct Reader<'a> {
     pub codes: &'a [u8],
     pub at: CodeBytes,

@@ -1,5 +1,5 @@
--- Running code lists, on any machine: the empty list changes nothing, a joined list is one list and then the other, grouping does not
--- matter, and the joined list refuses where either part does at its turn.
+-- Running code lists (RULES 3.15), on any machine: an empty list leaves all as it is; two lists in one are run as the first and, on what it
+-- left, the second, however they are grouped; and the first refusal among both is that of the whole.
 -- Assumes nothing.
 use mathlib.Core.Path.{_≡_, refl, ap}
 use mathlib.Core.List.{List, _∷_, _++_, append-assoc, []}

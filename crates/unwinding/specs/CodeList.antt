@@ -1,4 +1,4 @@
--- Code lists of any machine: their instructions' sizes, the end of a list that is still to be undone, and running a list.
+-- Code lists of any machine: their instructions' sizes (RULES 3.7), the end of a list that is still to be undone, and running a list.
 use Prim.Native.Nat.{ℕ, _+_}
 use mathlib.Core.List.{List, [], _∷_}
 use mathlib.Core.Option.{Option, none, some}
@@ -20,7 +20,7 @@ module _ {C : Type 0} (size : C → ℕ) where
   endOf after n [] = if eqb after n then some [] else none
   endOf after n (c ∷ cs) = if eqb (total (c ∷ cs) + after) n then some (c ∷ cs) else endOf after n cs
 
--- "The caller after a code list is the caller after its first code and then after the rest."
+-- running a list: the code at its front, and on what that left the others (RULES 3.15)
 unfoldable pub run : {C S : Type 0} → (C → S → Res S) → List C → S → Res S
 run step [] s = ok s
 run step (c ∷ cs) s = step c s >>= λ t. run step cs t

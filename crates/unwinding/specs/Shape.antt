@@ -11,13 +11,13 @@ pub record Shape : Type 0 where
   pub span : ℕ
   -- the code bytes
   pub codes : List ℕ
-  -- "F=1: no prologue"; Flag 2
+  -- there is no prologue: F=1 (RULES 2.7) or Flag 2 (RULES 2.2)
   pub fragment : Bool
   pub scopes : List Scope
   -- the handler's RVA, 0 if none
   pub handler : ℕ
 
--- where an epilogue of this size starts in a function of this length
+-- where an epilogue of this size starts in a function of this length (RULES 5.4)
 abbrev pub startOf : Start → (span size : ℕ) → ℕ
 startOf (From a) span size = a
 startOf Ending span size = span - size

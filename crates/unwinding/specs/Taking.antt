@@ -1,4 +1,4 @@
--- Codes in code bytes, on any machine: one code, and the list from an index on up to an end code, or refusal 6.
+-- Codes in code bytes, on any machine: one code, and the list from an index on up to an end code, or refusal 6 (RULES 3.5, 3.8).
 use Prim.Native.Nat.{ℕ, zero, suc, _+_, _-_}
 use mathlib.Core.List.{List, [], _∷_}
 use Rattle.words.specs.declared.CodeBytes.{CodeBytes}

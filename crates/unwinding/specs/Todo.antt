@@ -1,6 +1,4 @@
--- Where an offset stands in a record, and which codes are left to undo there.
--- "Body: run from index 0. Prologue (pc below the sum of sizes from index 0): skip codes of instructions not yet done, run the rest.
--- Epilogue: from its index, skip codes of instructions done, run the rest."
+-- Where an offset stands in a record (RULES 5.6), and which codes are left to undo there (RULES 5.7 to 5.9).
 use Prim.Native.Nat.{ℕ, _+_, _-_}
 use mathlib.Core.List.{List, [], _∷_}
 use mathlib.Core.Bool.{Bool, _&&_}
@@ -23,7 +21,7 @@ module _ {C : Type 0} (size : C → ℕ) where
 
 -- `may`: whether an epilogue of a condition may be executing; 10 if not
 module _ {C : Type 0} (size : C → ℕ) (may : (condition : ℕ) → Bool) where
-  -- inside an epilogue: 9 before 10
+  -- inside an epilogue: 9 before 10 (RULES 9.54)
   unfoldable pub inExit : Exit C → (offset : ℕ) → Res (Todo C)
   inExit e o = do
     t ← left size Epilogue (e .codes .endSize) (e .start + e .size - o) (e .codes .list)

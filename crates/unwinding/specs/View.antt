@@ -1,4 +1,4 @@
--- A record that passes 6 and 7: its codes from index 0, its prologue's size and its epilogues.
+-- A record that passes 6 and 7: its codes from index 0, its prologue's size (RULES 5.3) and its epilogues (RULES 5.4).
 use Prim.Native.Nat.{ℕ, _+_, min, max}
 use mathlib.Core.List.{List, [], _∷_, map}
 use mathlib.Core.Bool.{Bool, true, _&&_, not}
@@ -31,7 +31,7 @@ pub record Stretch : Type 0 where
 abbrev pub stretch : {C : Type 0} → Exit C → Stretch
 stretch e = record { from = e .start; to = e .start + e .size }
 
--- an empty stretch shares nothing
+-- an empty stretch shares nothing (RULES 5.5)
 abbrev pub shared : Stretch → Stretch → Bool
 shared a b = ltb (max (a .from) (b .from)) (min (a .to) (b .to))
 
@@ -52,8 +52,7 @@ ascending [] = true
 ascending (a ∷ []) = true
 ascending (a ∷ b ∷ rest) = ltb a b && ascending (b ∷ rest)
 
--- 7: "prologue or an epilogue (packed and E=1 too) not wholly inside the function; scope starts not strictly ascending; an epilogue
--- shares a halfword with another or with the prologue"
+-- what 7 asks: all inside the function, the starts of the epilogues rising, no two with a byte in common (RULES 5.5, 9.7)
 abbrev pub fits : {C : Type 0} → (span prologue : ℕ) → List (Exit C) → Bool
 fits span p es =
     let all : List Stretch = record { from = 0; to = p } ∷ map stretch es in
@@ -69,7 +68,7 @@ module _ {C : Type 0} (size : C → ℕ) (read : List ℕ → CodeBytes → Res 
     let n = total size (c .list) + c .endSize
     ok (record { start = startOf (e .start) (s .span) n; size = n; condition = e .condition; codes = c } ∷ rest)
 
-  -- "6, 7": every code list is read before the layout is looked at. A prologue's end code has no instruction
+  -- 6 before 7: every code list is read before the layout is looked at (RULES 9.54). The end code adds nothing to a prologue (RULES 3.4)
   unfoldable pub view : Shape → Res (View C)
   view s = do
     c ← read (s .codes) (codeBytes 0)

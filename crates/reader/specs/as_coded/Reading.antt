@@ -1,4 +1,4 @@
--- The reader's moves, and what a pass over a code list finds. That a pass finds the list is a law (`codes-end`, `codes-refused` of
+-- The reader's moves (RULES 3.6), and what a pass over a code list finds (RULES 3.7). That a pass finds the list is a law (`codes-end`, `codes-refused` of
 -- proofs/Sizes.antt).
 use Prim.Native.Nat.{ℕ, _+_, _/_}
 use mathlib.Core.Bool.{true, false}
