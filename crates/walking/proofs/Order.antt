@@ -27,7 +27,7 @@ inputs ws =
 abbrev at : (pc sp : ℕ) → Place → Frame
 at c s p = record { pc = c; sp = s; place = p }
 
--- a caller's pc 0 ends it, before full: one record, and one frame
+-- pc 0 in the caller is the end, also where the list is full then (RULES 7.4): one record, and one frame
 end-before-full : walk (inputs (9 ∷ 0 ∷ [])) 1 (regs 0x401008 0x20000 0) ≡ record { frames = at 0x401008 0x20000 Body ∷ []; stop = End; codes = 2 }
 unfolding opened
 end-before-full = refl
@@ -37,7 +37,7 @@ end-odd : walk (inputs (9 ∷ 1 ∷ [])) 1 (regs 0x401008 0x20000 0) .stop ≡ E
 unfolding opened
 end-odd = refl
 
--- a full list stops it before the next frame, and a list of length 0 before any refusal
+-- without room it stops before the next frame, and in a list of no records before any refusal (RULES 7.3)
 full-after-1 :
     walk (inputs (9 ∷ 0x401009 ∷ 9 ∷ 0 ∷ [])) 1 (regs 0x401008 0x20000 0) ≡ record { frames = at 0x401008 0x20000 Body ∷ []; stop = Full; codes = 2 }
 unfolding opened
@@ -47,7 +47,7 @@ full-at-0 : walk (inputs []) 0 (regs 0 1 0) ≡ record { frames = []; stop = Ful
 unfolding opened
 full-at-0 = refl
 
--- a first frame may be a leaf and leave SP the same; a later one is 12
+-- a first frame may be a leaf and keep SP; a later one is 12 (RULES 7.6)
 leaf-first :
     walk (inputs (9 ∷ 0 ∷ [])) 9 (regs 0x409000 0x20000 0x401009)
     ≡ record { frames = at 0x409000 0x20000 Leaf ∷ at 0x401008 0x20000 Body ∷ []; stop = End; codes = 2 }
@@ -60,7 +60,7 @@ later-12 :
 unfolding opened
 later-12 = refl
 
--- a return address at a function's start runs 0 codes: 13
+-- a return address at a function's start, where no code is run: 13 (RULES 7.8)
 later-13 : walk (inputs (9 ∷ 0x401001 ∷ [])) 9 (regs 0x401008 0x20000 0) .stop ≡ Refused SpSame 0x401000
 unfolding opened
 later-13 = refl

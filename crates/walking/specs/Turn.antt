@@ -32,7 +32,7 @@ halted s x = record { on = false; stop = x; frame = recorded (s .regs) Leaf; nex
 abbrev pub callerOf : Unwound → Caller
 callerOf u = record { regs = u .regs; place = u .place; handler = u .handler; codes = u .codes }
 
--- a frame unwound: it is listed, and the caller's pc 0 ends the walk
+-- a frame unwound: it is listed (RULES 7.2), and if its caller has pc 0 the walk is at its end (RULES 7.4)
 abbrev pub gone : State → Caller → Turn
 gone s c =
     record {
@@ -42,7 +42,7 @@ gone s c =
       next = record { checked = s .checked; regs = c .regs; end = eqb (c .regs .pc) 0; frames = s .frames + 1; codes = s .codes + c .codes };
     }
 
--- "A caller's pc 0 ends it (before full). Before each frame, a full list stops it. A refusal stops it with number and the frame's pc."
+-- one turn: at the end (RULES 7.4), else without room (RULES 7.3), else by the next frame, unwound or refused (RULES 7.5)
 unfoldable pub turnOf : Inputs → (room : ℕ) → State → Turn
 turnOf t room s =
     if s .end

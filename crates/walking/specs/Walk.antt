@@ -1,6 +1,4 @@
--- The walk. "It fills a lent list of frame records: pc, SP, place, one per frame that unwound. Before each frame, a full list stops it
--- (also for length 0). A caller's pc 0 ends it (before full). A refusal stops it with number and the frame's pc. The answer adds the
--- frame count and the sum of codes run in those frames. Other records stay as lent."
+-- The walk: frame after frame, each listed when it is unwound, up to an end, a full list or a refusal (RULES 7.1 to 7.5).
 use Prim.Native.Nat.{ℕ, zero, suc, _+_}
 use mathlib.Core.List.{List, [], _∷_, _++_}
 use mathlib.Core.Bool.{Bool, true, false, _||_, not}
@@ -17,14 +15,14 @@ use Rattle.walking.specs.declared.Stop.the-variants.{End, Full, Refused}
 use Rattle.walking.specs.declared.Walked.{Walked}
 use Rattle.walking.specs.declared.WalkedAll.{WalkedAll}
 
--- 13: "a frame after the first leaves SP the same" (12 is in `frameOf`)
+-- one frame of a walk, which must change SP if it is a later one (13; RULES 7.6). 12 is in `frameOf`
 unfoldable pub nextFrame : (first : Bool) → Inputs → Regs → Res Caller
 nextFrame first t g = do
   c ← frameOf first t g
   need (first || not (eqb (c .regs .sp) (g .sp))) SpSame
   ok c
 
--- the frames listed, the stop, the sum of codes
+-- the frames listed, the stop, the sum of codes (RULES 7.7)
 pub record Trail : Type 0 where
   pub frames : List Frame
   pub stop : Stop
@@ -49,7 +47,7 @@ walkFrom t (suc n) first g =
 abbrev pub walk : Inputs → (room : ℕ) → Regs → Trail
 walk t room g = walkFrom t room true g
 
--- the answer, and the lent list as the walk leaves it
+-- the answer (RULES 7.7), and the lent list as the walk leaves it (RULES 7.2)
 abbrev pub walked : Trail → Walked
 walked w = record { stop = w .stop; frames = length (w .frames); codes = w .codes }
 

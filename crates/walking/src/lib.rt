@@ -1,4 +1,4 @@
-// The walk: frame after frame into a lent list of frame records. It knows no files.
+// The walk (RULES 7): frame after frame into a list that was lent. It knows no files.
 ghost use mathlib.Core.Path.{_≡_};
 ghost use Prim.Native.Nat.{_<_, _≤_};
 ghost use lib.ListN.{length, set};
@@ -12,21 +12,21 @@ use words::Place;
 use words::Refusal;
 use words::Verdict;
 
-// A frame that unwound: its pc with bit 0 cleared, its SP, its place.
+// What is listed of a frame (RULES 7.2); bit 0 of its pc is 0.
 pub struct Frame {
     pub pc: u32,
     pub sp: u32,
     pub place: Place,
 }
 
-// Why a walk stopped: a caller's pc was 0, the list was full, or the frame at this pc was refused.
+// Why a walk stopped: a caller's pc was 0, the list was full, or the frame at this pc was refused (RULES 7.3 to 7.5).
 pub enum Stop {
     End,
     Full,
     Refused(Refusal, u32),
 }
 
-// A walk's answer: the stop, the frames listed, and the sum of codes run in them.
+// A walk's answer: the stop, how many frames are listed, and how many codes they ran (RULES 7.7).
 pub struct Walked {
     pub stop: Stop,
     pub frames: usize,
@@ -56,7 +56,7 @@ struct Turn {
     next: State,
 }
 
-// One frame of a walk: 13 where one after the first leaves SP the same.
+// One frame of a walk: 13 where a later one does not change SP (RULES 7.6).
 fn next_frame(
     first: bool,
     c: Checked,
@@ -183,7 +183,7 @@ fn step(
     }
 }
 
-// Stores one frame, and leaves the others.
+// Fills one record of the list; the others stay (RULES 7.2).
 fn put(list: &mut [Frame], at: usize, f: Frame)
     requires { ⌜ at < length (now list) ⌝ }
     ensures { λ _. ⌜ now (list .exit) ≡ set (now (list .entry)) at f ⌝ }
@@ -191,7 +191,7 @@ fn put(list: &mut [Frame], at: usize, f: Frame)
     list[at] = f;
 }
 
-// The walk from these registers: a record in the lent list for each frame that unwound, the others left.
+// The walk from these registers: each frame that is unwound fills a record of the lent list, and the others stay.
 pub fn walk(
     image: u32,
     pdata: &[u8],
