@@ -1,4 +1,4 @@
--- Document 01's examples, those marked P and those that stand beside them, proved of the definitions by computation.
+-- The examples of docs/RULES.md, proved of the definitions by computation: RULES 3.10, 4.20, 5.11, 5.12 and 8.13.
 -- Assumes nothing.
 use Prim.Native.Nat.{ℕ, zero, suc, _+_, _-_, _*_, _%_, _^_, _≤_, _<_}
 use mathlib.Core.Path.{_≡_, refl, sym, ap, _∙_}
@@ -44,7 +44,7 @@ use Rattle.forward.specs.Met.{At}
 use Rattle.forward.proofs.Framed.{stack-end, passed}
 use Rattle.forward.proofs.Examples.{own, shape, views, known, framed}
 
--- "Packed 0x00910041: push {r4,r5,lr}; sub sp,#8. Both lists 02 D5 FF. Length 32, epilogue at 0x1C."
+-- the packed word of RULES 4.20 and its code bytes
 abbrev c02 : Code
 c02 = record { undo = Up (stackWords 2); size = halfwords 1 }
 
@@ -60,7 +60,7 @@ packed-codes :
 unfolding opened
 packed-codes = refl
 
--- P offset 0: nothing runs. P 2: D5. P 4: 02 D5. P 0x1C: 02 D5. P 0x1E: D5.
+-- its offsets (RULES 5.11)
 packed-0 : at packed 0 ≡ says Prologue []
 unfolding opened
 packed-0 = refl
@@ -81,7 +81,7 @@ packed-1E : at packed 0x1E ≡ says Epilogue (cD5 ∷ [])
 unfolding opened
 packed-1E = refl
 
--- "Header 0x102000A5, codes C7 DD 04 FD"
+-- the full record of RULES 5.12
 abbrev xdata : Lent
 xdata = record { base = 0x3000; bytes = bytesOf (0x102000A5 ∷ 0xFD04DDC7 ∷ []) }
 
@@ -101,7 +101,7 @@ full-size : xdataSize xdata 0x3000 ≡ ok 8
 unfolding opened
 full-size = refl
 
--- P offset 2: 04. P 4: refusal 9. P 8: all three. P 0x142: DD 04. P 0x148: none.
+-- its offsets
 full-2 : at full 2 ≡ says Prologue (c04 ∷ [])
 unfolding opened
 full-2 = refl
@@ -122,7 +122,7 @@ full-148 : at full 0x148 ≡ says Epilogue []
 unfolding opened
 full-148 = refl
 
--- "Stack Adjust 0x3F3: 4,044 bytes, not folded; 0x3F4: 1 word, PF=1, EF=0."
+-- Stack Adjust where folding begins, and below (RULES 4.20)
 adjust-3F3 : (stackBytes (amount (fields (0x3F3 * 2 ^ 22))) ≡ 4044) × (folded (fields (0x3F3 * 2 ^ 22)) ≡ false)
 adjust-3F3 = (refl, refl)
 
@@ -130,7 +130,7 @@ adjust-3F4 :
     (amount (fields (0x3F4 * 2 ^ 22)) ≡ stackWords 1) × (PF (fields (0x3F4 * 2 ^ 22)) ≡ true) × (EF (fields (0x3F4 * 2 ^ 22)) ≡ false)
 adjust-3F4 = (refl, refl, refl)
 
--- "Whole listing"
+-- the report of RULES 8.13
 abbrev pub regs : (pc sp : ℕ) → Regs
 regs c s = record { r = replicate 13 0; sp = s; lr = 0; pc = c; d = replicate 32 0 }
 
@@ -170,7 +170,7 @@ listing-printed :
 unfolding opened
 listing-printed = refl
 
--- P 0x20: not covered, so the caller of a leaf
+-- the packed word at offset 0x20, which it does not cover (RULES 5.11): the caller of a leaf
 packed-20 : frame inputs (regs 0x00401020 0x20008) ≡ ok (record { regs = regs 0 0x20008; place = Leaf; handler = 0; codes = 0 })
 unfolding opened
 packed-20 = refl
@@ -200,8 +200,8 @@ full-8-frame :
 unfolding opened
 full-8-frame = refl
 
--- "all three, SP = r7 + 44", of every r7: a multiple of 4 from which the loads stay in a stack that passes 1, in which the given SP stands,
--- not above the caller's
+-- the SP of RULES 5.12 at offset 8, for every r7 that is divisible by 4 and from which the loads stay in a stack that passes 1, in which
+-- the given SP stands, not above the caller's
 pub record Sevens (k : Lent) (g : Regs) : Type 0 where
   pub fit : fitStack k ≡ true
   pub pc : g .pc ≡ 0x00401008
@@ -296,7 +296,7 @@ full-8-law k g s =
       w .2,
     )
 
--- "Loading the last word: SP = end is right; one word more: 8", and the registers come back as given
+-- the stack's last word can be loaded (RULES 3.10), a word more is 8, and then the registers come back as given
 abbrev short : ℕ → Inputs
 short n =
     record { image = 0x00400000; pdata = pdata; xdata = record { base = 0; bytes = [] }; stack = record { base = 0x20008; bytes = bytesOf (replicate n 7) } }

@@ -1,5 +1,5 @@
--- Finding the record for a pc meets its laws, since in an ascending table the last record that starts at or below the pc has the greatest
--- such start; and a reader that looks at the first record only breaks them.
+-- Finding meets its laws, since in an ascending table the last record that starts at or before the pc has the greatest such start; and a
+-- reader that looks at the first record only breaks them.
 -- Assumes nothing.
 use Prim.Native.Nat.{ℕ, zero, suc, _+_, _-_, _/_, _%_, _≤_, _<_}
 use mathlib.Core.Path.{_≡_, refl, ap, subst}

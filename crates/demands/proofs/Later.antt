@@ -1,5 +1,5 @@
--- A walk's frame beside the frame by itself: after the first, one that has no covering record is refused with 12 and one that leaves SP the
--- same with 13; else both answers are one.
+-- A walk's frame beside the frame by itself: a later one that nothing covers is refused with 12, and one that does not change SP with 13
+-- (RULES 7.6); else both answers are one.
 -- Assumes nothing.
 use Prim.Native.Nat.{ℕ, _+_, _-_, _<_}
 use mathlib.Core.Path.{_≡_, refl, sym, ap, _∙_, subst}

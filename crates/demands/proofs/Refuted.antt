@@ -1,4 +1,4 @@
--- Each of document 01's shams breaks the demand that document 01 names for it.
+-- Each sham of RULES 10.23 breaks the demand that is named there for it.
 -- Assumes nothing.
 use Prim.Native.Nat.{ℕ, _≤_, _<_}
 use mathlib.Core.Path.{_≡_, refl, sym, ap, _∙_, subst}
@@ -58,20 +58,20 @@ answered unwind h r4 =
       kept = ap (λ (u : Unwound). reg (u .regs) 4) q ∙ f .answer .r 4 (omega arith) (omega arith);
     }
 
--- "refusing everything (demand 3)"
+-- always refusing
 no-refusing : (r : Inputs → Regs → Refusal) → Demand3 (refusing r .unwind) → ⊥
 no-refusing r h =
     let a = answered (refusing r .unwind) h 0 in
     let q : Refused (r (a .inputs) (a .regs)) ≡ Given = a .given in
     let z : _≡_ {A = ℕ} 0 1 = cc in omega arith
 
--- "one fixed caller (demand 3, two entries)"
+-- always the same caller, by two entries
 no-fixed : (u : Unwound) → Demand3 (fixed u .unwind) → ⊥
 no-fixed u h =
     let z : _≡_ {A = ℕ} 0 1 = sym (answered (fixed u .unwind) h 0 .kept) ∙ answered (fixed u .unwind) h 1 .kept in omega arith
 
 -- ---- demand 2
--- "the registers back as a leaf (demand 2, offset 4 above)": there two codes run, and the caller's SP is another
+-- an answer like a leaf's, at offset 4 of RULES 5.11: there two codes run, and the caller's SP is another
 offset-4 : frame Example.inputs (Example.regs 0x00401004 0x20000) ≡ ok (record { regs = record { r = 0 ∷ 0 ∷ 0 ∷ 0 ∷ 0x44 ∷ 0x55 ∷ replicate 7 0; sp = 0x20014; lr = 0x00402011; pc = 0x00402010; d = replicate 32 0 }; place = Body; handler = 0; codes = 2 })
 unfolding opened
 offset-4 = refl
@@ -82,7 +82,7 @@ no-leaf h =
     let q : unwound g (ok (leafOf g)) ≡ unwound g (frame Example.inputs g) = h .caller Example.inputs g in
     let z : _≡_ {A = ℕ} 0x20000 0x20014 = ap (λ (u : Unwound). u .regs .sp) (q ∙ ap (unwound g) offset-4) in omega arith
 
--- "a walk that unwinds one frame and copies it (demand 2, listing)"
+-- a walk that repeats its first frame, by RULES 8.13
 abbrev blank : Frame
 blank = record { pc = 0; sp = 0; place = Leaf }
 
@@ -104,6 +104,6 @@ no-copying a h c =
     let z : _≡_ {A = ℕ} 0x00402010 0x00401002 = ap (λ (f : Frame). f .pc) (subst same q (c Example.inputs Example.given lent blank 1) (omega arith)) in
     omega arith
 
--- "an invented code count (it is that of the codes the definition runs)": one that differs at any frame
+-- a made-up count of codes (RULES 3.16): one that differs at any frame
 no-inventing : (count : Inputs → Regs → ℕ) (t : Inputs) (g : Regs) → count t g ≢ ours .unwind t g .codes → Demand2 (inventing count) → ⊥
 no-inventing count t g n h = n (ap (λ (u : Unwound). u .codes) (h .caller t g))

@@ -1,5 +1,5 @@
 -- The contract of a public operation, as whoever calls it learns it, and what is claimed of each: it asks nothing, it gives the reader's
--- answer, and it allows one result.
+-- answer, and it allows one result (RULES 10.22).
 use Prim.Native.Nat.{ℕ}
 use mathlib.Core.Path.{_≡_}
 use mathlib.Core.List.{List}

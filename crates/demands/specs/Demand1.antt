@@ -1,6 +1,5 @@
--- Demand 1: "It takes every report, damaged ones too, comes to an end and never reads outside what it was given. Each refusal has a number,
--- hands the registers back as they came, and leaves frame records not yet filled untouched. A word it cannot read is refused, never taken
--- for zero." That it takes every report and ends is said by its type: a reader answers every input.
+-- Demand 1 (RULES 10.1), as laws on answers (RULES 10.2). That it answers at all, whatever is damaged, is said by its type: a reader
+-- answers every input.
 use Prim.Native.Nat.{ℕ, _+_, _≤_}
 use mathlib.Core.Path.{_≡_}
 use mathlib.Core.Logic.{_≢_, _⊎_}
@@ -58,27 +57,27 @@ abbrev pub Unfit : Reader → (file : List ℕ) → Type 0
 Unfit a file = (a .list file ≡ text "refused 14\n") × (a .show file ≡ text "refused 14\n")
 
 pub record Demand1 (a : Reader) : Type 0 where
-  -- "Each refusal has a number": of one frame 1 to 11, of a walk 1 to 13, of finding 1 to 3
+  -- the numbers of its refusals (RULES 9.56): of one frame 1 to 11, of a walk 1 to 13, of finding 1 to 3
   pub frame-number : (t : Inputs) (g : Regs) (r : Refusal) → a .unwind t g .verdict ≡ Verdict.Refused r → (1 ≤ number r) × (number r ≤ 11)
   pub walk-number : (t : Inputs) (g : Regs) (l : List Frame) (r : Refusal) (pc : ℕ) → a .walk t g l .walked .stop ≡ Stop.Refused r pc → (1 ≤ number r) × (number r ≤ 13)
   pub find-number : (image : ℕ) (pdata : List ℕ) (pc : ℕ) (r : Refusal) → a .find image pdata pc ≡ Found.Refused r → (1 ≤ number r) × (number r ≤ 3)
-  -- "a refused size, packed word, code byte or list length is 0"
+  -- of a size 1, 4 or 5, of both writers 4, and what they then give is zeros (RULES 2.13, 4.18, 4.19)
   pub size-number : (x : Lent) (at : ℕ) (r : Refusal) → a .size x at .verdict ≡ Verdict.Refused r → ((number r ≡ 1) ⊎ (number r ≡ 4) ⊎ (number r ≡ 5)) × (a .size x at .bytes ≡ 0)
   pub word-number : (p : Packed) (r : Refusal) → a .word p .verdict ≡ Verdict.Refused r → (number r ≡ 4) × (a .word p .word ≡ 0)
   pub codes-number : (w : ℕ) (r : Refusal) → a .codes w .verdict ≡ Verdict.Refused r → (number r ≡ 4) × (a .codes w .bytes ≡ replicate 16 0) × (a .codes w .first .0 ≡ 0) × (a .codes w .second .0 ≡ 0)
-  -- it "hands the registers back as they came": with 0 codes, handler 0 and place leaf
+  -- a refused frame is the registers as they came, place leaf and zeros (RULES 6.7)
   pub given-back : (t : Inputs) (g : Regs) (r : Refusal) → a .unwind t g .verdict ≡ Verdict.Refused r → a .unwind t g ≡ unwound g (refuse r)
-  -- it "leaves frame records not yet filled untouched", however the walk stops
+  -- records that a walk does not fill stay as lent, however it stops (RULES 7.2)
   pub untouched : (t : Inputs) (g : Regs) (l : List Frame) → Untouched l (a .walk t g l)
-  -- it "never reads outside", and a word that it cannot read is "never taken for zero": an answer, given or refused by anything
-  -- but how much is lent, does not change with what lies beyond
+  -- only lent bytes are read, and a missing one does not count as 0 (RULES 1.8): an answer, given or refused by anything but how much is
+  -- lent, does not change with what lies beyond
   pub frame-stays : (t t′ : Inputs) (g : Regs) → Wider t t′ → ofExtent (verdictNumber (a .unwind t g .verdict)) ≡ false → a .unwind t′ g ≡ a .unwind t g
   pub walk-stays : (t t′ : Inputs) (g : Regs) (l : List Frame) → Wider t t′ → ((r : Refusal) (pc : ℕ) → a .walk t g l .walked .stop ≡ Stop.Refused r pc → ofExtent (number r) ≡ false) → a .walk t′ g l ≡ a .walk t g l
   -- so too for the frames that a walk lists before it is refused, by any number
   pub listed-stay : (t t′ : Inputs) (g : Regs) (l : List Frame) → Wider t t′ → Agree (a .walk t g l .walked .frames) (a .walk t g l) (a .walk t′ g l)
   pub size-stays : (x x′ : Lent) (at : ℕ) → More x x′ → fitXdata x′ ≡ true → ofExtent (verdictNumber (a .size x at .verdict)) ≡ false → a .size x′ at ≡ a .size x at
-  -- a report has its parts "and nothing more": cut short, or with more bytes, it is none
+  -- a report ends with its parts (RULES 8.2): cut short, or with more bytes, it is none
   pub whole-file : (file more : List ℕ) → more ≢ [] → Unfit a file ⊎ Unfit a (file ++ more)
-  -- what the programs print fits their buffers
+  -- what the programs print fits their buffers (RULES 8.7)
   pub list-fits : (file : List ℕ) → length (a .list file) ≤ 8192
   pub show-fits : (file : List ℕ) → length (a .show file) ≤ 1024

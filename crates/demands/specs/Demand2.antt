@@ -1,6 +1,5 @@
--- Demand 2: "For each .pdata/.xdata record, packed or full, it gives the caller that Microsoft's published rules give, and it writes packed
--- records and their code bytes by the same rules." The rules, as document 01 decides them, are the definitions that `ours` names; a reader
--- that answers as they do is the only one. Beside it stand laws that say what its answers are for, and not how the operation is defined.
+-- Demand 2 (RULES 10.3). The rules that it speaks of are the definitions that `ours` names; a reader that answers as they do is the only
+-- one. Beside it stand laws that say what its answers are for, and not how the operation is defined.
 use Prim.Native.Nat.{ℕ}
 use mathlib.Core.Path.{_≡_}
 use mathlib.Core.List.{List}

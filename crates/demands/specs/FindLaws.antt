@@ -1,4 +1,4 @@
--- Laws of finding the record for a pc, of any reader, in terms of the .pdata's own records and not of how they are searched.
+-- Laws of finding (RULES 2.4, 2.5), of any reader, in terms of the .pdata's own records and not of how they are searched.
 use Prim.Native.Nat.{ℕ, _+_, _/_, _≤_, _<_}
 use mathlib.Core.Path.{_≡_}
 use mathlib.Core.List.{List}

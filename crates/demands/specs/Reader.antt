@@ -1,4 +1,4 @@
--- Any reader: what it answers to each of document 01's operations, whole. The three demands are asked of any.
+-- Any reader: what it answers to each of the operations, whole. The three demands are asked of any.
 use Prim.Native.Nat.{ℕ}
 use mathlib.Core.List.{List}
 use lib.ListN.{length}
@@ -21,8 +21,7 @@ use Rattle.walking.specs.declared.WalkedAll.{WalkedAll}
 use Rattle.listing.specs.Listing.{listing}
 use Rattle.caller_text.specs.CallerText.{callerText}
 
--- "finding the record for a pc; one frame; a walk; an xdata record's byte size; writing packed words and their code bytes; a program
--- over a report file"
+-- the operations of RULES 1.2, in that order, with a report's two texts at the end
 pub record Reader : Type 0 where
   pub find : (image : ℕ) → (pdata : List ℕ) → (pc : ℕ) → Found
   pub unwind : Inputs → Regs → Unwound

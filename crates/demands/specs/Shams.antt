@@ -1,4 +1,4 @@
--- Document 01's shams: readers that look like one, and that a demand must break (proofs/Refuted.antt).
+-- Shams (RULES 10.23): readers that look like one, and that a demand must break (proofs/Refuted.antt).
 use Prim.Native.Nat.{ℕ, _-_, _<_}
 use mathlib.Core.Path.{_≡_}
 use mathlib.Core.List.{List, [], _∷_, _++_}
@@ -25,26 +25,26 @@ abbrev pub with-unwind : (Inputs → Regs → Unwound) → Reader
 with-unwind u =
     record { find = ours .find; unwind = u; walk = ours .walk; size = ours .size; word = ours .word; codes = ours .codes; list = ours .list; show = ours .show }
 
--- "refusing everything"
+-- it always refuses
 abbrev pub refusing : (Inputs → Regs → Refusal) → Reader
 refusing r = with-unwind (λ t g. unwound g (refuse (r t g)))
 
--- "one fixed caller"
+-- it always has the same caller
 abbrev pub fixed : Unwound → Reader
 fixed u = with-unwind (λ t g. u)
 
--- "the registers back as a leaf"
+-- it answers like a leaf
 abbrev pub as-leaf : Reader
 as-leaf = with-unwind (λ t g. unwound g (ok (leafOf g)))
 
--- "an invented code count", whatever it is made of
+-- its count of codes is made up, in any way
 abbrev pub recounted : ℕ → Unwound → Unwound
 recounted n u = record { verdict = u .verdict; regs = u .regs; place = u .place; handler = u .handler; codes = n }
 
 abbrev pub inventing : (Inputs → Regs → ℕ) → Reader
 inventing count = with-unwind (λ t g. recounted (count t g) (ours .unwind t g))
 
--- "a walk that unwinds one frame and copies it": any reader whose walks list no other frame than the first
+-- its walk repeats its first frame: any reader whose walks list no other
 abbrev pub Copying : Reader → Type 0
 Copying a =
     (t : Inputs) (g : Regs) (l : List Frame) (none : Frame) (i : ℕ) → i < a .walk t g l .walked .frames
@@ -90,7 +90,7 @@ abbrev pub coding : ℕ → (first second : List ℕ) → Reader
 coding word k l =
     with-packed (ours .word) (λ w. if eqb w word then record { verdict = Given; bytes = take 16 (k ++ l ++ replicate 16 0); first = codeBytes (length k); second = codeBytes (length l) } else ours .codes w)
 
--- "Taking pop {r4,lr} for 16 bits because D4 says 16", in an epilogue that branches: Ret=1, L=1
+-- pop {r4,lr} coded as D4, of 16 bits, while it has 32 (RULES 4.20), in an epilogue that branches: Ret=1, L=1
 abbrev pub narrow-pop : Reader
 narrow-pop = coding 0x00102041 (0xD4 ∷ 0xFF ∷ []) (0xD4 ∷ 0xFD ∷ [])
 

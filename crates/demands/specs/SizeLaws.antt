@@ -9,8 +9,7 @@ use Rattle.words.specs.declared.Verdict.the-variants.{Given}
 use Rattle.words.specs.Answer.{if_then_else_}
 use Rattle.demands.specs.Reader.{Reader}
 
--- the words of a record that begins with w and v: its head ("if bits 23-31 are all 0, word 1 follows"), "with E=0, count scope words", the
--- codes and, "with X=1, the handler RVA word"
+-- the words of a record that begins with w and v: its head, its scopes, its codes and its handler (RULES 2.8 to 2.13)
 abbrev pub wordCount : (w v : ℕ) → ℕ
 wordCount w v =
     let long = eqb (bits 23 9 w) 0 in
@@ -18,7 +17,7 @@ wordCount w v =
     + (if long then bits 16 8 v else bits 28 4 w)
     + (if bit 20 w then 1 else 0)
 
--- of the size given for a record's RVA, "low two bits ignored"
+-- of the size given for a record's RVA, whose bits 0-1 are cleared (RULES 2.13)
 pub record SizeLaws (a : Reader) : Type 0 where
   pub counted : (x : Lent) (at : ℕ) → a .size x at .verdict ≡ Given
       → a .size x at .bytes ≡ 4 * wordCount (wordAt x (at - at % 4)) (wordAt x (at - at % 4 + 4))

@@ -1,5 +1,5 @@
--- Walks, asked of any reader: its walk goes by its own single frames, from its first frame's answer (k = 0) on, and with less room it is cut
--- short, never another.
+-- Walks (RULES 7), asked of any reader: its walk goes by its own single frames, from its first frame's answer (k = 0) on, and with less
+-- room it is cut short, never another.
 use Prim.Native.Nat.{ℕ, zero, suc, _+_, _≤_, _<_, min}
 use mathlib.Core.Path.{_≡_}
 use mathlib.Core.Logic.{_≢_}
@@ -28,7 +28,7 @@ unfoldable pub codesRun : (unwind : Regs → Unwound) → Regs → (k : ℕ) →
 codesRun u g zero = 0
 codesRun u g (suc k) = u g .codes + codesRun u (u g .regs) k
 
--- why the frame at g, with n before it, is refused: by itself; 12, "a frame after the first has no covering record"; 13, it "leaves SP the same"
+-- why the frame at g, with n before it, is refused: by itself; a later one by 12, as a leaf, or by 13, if it does not change SP (RULES 7.6)
 pub data Why (u : Regs → Unwound) (g : Regs) (n : ℕ) : Refusal → Type 0 where
   itself : (r : Refusal) → u g .verdict ≡ Verdict.Refused r → Why u g n r
   uncovered : 0 < n → u g .verdict ≡ Verdict.Given → u g .place ≡ Leaf → Why u g n NoRecord

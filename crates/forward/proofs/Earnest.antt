@@ -1,4 +1,4 @@
--- The conditions met in earnest: a body that overwrites what was saved and its own words, a sub that writes the words it gains, nops
+-- The conditions met in earnest: a body that overwrites what was saved and its own words, a sub that writes what SP falls over, nops
 -- that write what they may, SP moved before the epilogue; and the handler that the answer has.
 -- Assumes nothing.
 use Prim.Native.Nat.{ℕ, _+_, _-_, _*_, _^_, _≤_, _<_}
@@ -221,7 +221,7 @@ plain-1E-used e v m h =
     Leaving.none refl (overwritten-plain v e 0x0040101C m (omega arith)) in
     (start, p .1, r)
 
--- ---- a sub that writes the words it gains
+-- ---- a sub that writes what SP falls over
 pub plain-4-wrote : (e : State) (w₀ w₁ : ℕ) → w₀ < 2 ^ 32 → w₁ < 2 ^ 32 → Entered e → (r : Reaches (inputs plain) e 4 Body cs) × AtSp w₀ w₁ (r .now)
 unfolding opened
 plain-4-wrote e w₀ w₁ b₀ b₁ h =

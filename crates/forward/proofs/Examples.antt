@@ -199,7 +199,7 @@ nop = code Nothing 2
 abbrev pub pop45 : Code
 pop45 = code (Pop (2 ^ 4 + 2 ^ 5)) 1
 
--- a pop with LR takes 32 bits
+-- a pop of LR has 32 bits (RULES 4.12)
 abbrev pub pop45lrWide : Code
 pop45lrWide = code (Pop (2 ^ 4 + 2 ^ 5 + 2 ^ 14)) 2
 

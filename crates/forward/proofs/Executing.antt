@@ -1,4 +1,5 @@
--- A prologue for every code list that 01 allows one, run from any state with room: each instruction stores what it must and nothing else.
+-- A prologue for every code list that may have one (RULES 10.21), run from any state with room: each instruction stores what it must and
+-- nothing else.
 -- Assumes nothing.
 use Prim.Native.Nat.{ℕ, _+_, _-_, _≤_}
 use mathlib.Core.Path.{_≡_, refl, ap, _∙_}

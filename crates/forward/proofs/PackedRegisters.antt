@@ -59,7 +59,7 @@ lrs b = if eqb b 1 then 14 ∷ [] else []
 abbrev listOf : (r reg c a : ℕ) → Bool → ℕ
 listOf r reg c a f = (if eqb r 0 then range 4 (4 + reg) else 0) + (if f then range (3 - a) 3 else 0) + c * 2 ^ 11
 
--- "C=1, R=0 and Reg=7" is refused
+-- r11 is named twice, which is refused (RULES 4.5)
 abbrev pub clash : (r reg c : ℕ) → Bool
 clash r reg c = eqb c 1 && eqb r 0 && eqb reg 7
 

@@ -234,7 +234,7 @@ no-second p =
     (no-leaves p (integers p (EF p)) (eqb (p .h) 1 && eqb (p .l) 1) (eqb (p .ret) 0))
 
 -- ---- the second list
--- "packed with Ret=0 and L=0, or C=1 and L=0, or C=1, R=0 and Reg=7" are refused
+-- what RULES 4.5 leaves of a packed word: it can return, and r11 is not named twice
 record Allowed (p : Packed) : Type 0 where
   returns : p .ret ≡ 0 → p .l ≢ 0
   clashes : clash (p .r) (p .reg) (p .c) ≡ false

@@ -1,4 +1,5 @@
--- Every place of a record whose code list 01 allows a prologue is reached, from any state with room and on from any state on the way.
+-- Every place of a record whose code list may have a prologue is reached (RULES 10.21), from any state with room and on from any state on
+-- the way.
 -- Assumes nothing.
 use Prim.Native.Nat.{ℕ, _+_, _-_, _%_, _^_, _≤_, _<_}
 use mathlib.Core.Path.{_≡_, refl, sym, ap, ap₂, _∙_, subst}

@@ -1,4 +1,5 @@
--- Document 01's conditions give what undoing needs: the prologue's instructions are the steps, and what the body keeps is enough.
+-- The conditions (RULES 10.9 to 10.16) give what undoing needs: the prologue's instructions are the steps, and what the body keeps is
+-- enough.
 -- Assumes nothing.
 use Prim.Native.Nat.{ℕ, zero, suc, _+_, _*_, _%_, _≤_, _<_}
 use mathlib.Core.Path.{_≡_, refl, sym, ap, _∙_, subst}

@@ -1,4 +1,4 @@
--- What the body keeps of the state that the whole prologue left.
+-- What the body keeps of the state that the whole prologue left (RULES 10.15, 10.16).
 use Prim.Native.Nat.{ℕ, _+_, _%_, _≤_}
 use mathlib.Core.Path.{_≡_}
 use mathlib.Core.Logic.{_⊎_}
@@ -22,12 +22,12 @@ abbrev pub Words : (ℕ → Type 0) → (before now : Lent) → (at : ℕ) → L
 Words of k k′ a [] = Unit {0}
 Words of k k′ a (c ∷ cs) = Holds of k k′ a (saves (c .undo)) × Words of k k′ (a + falls (c .undo)) cs
 
--- "those the codes load into that rX, LR, r4-r11 or d8-d15"
+-- the registers whose saved values must stay where they stand: rX, and those that last
 abbrev pub Wanted : List Code → ℕ → Type 0
 Wanted cs x = RX cs x ⊎ Lasting x
 
--- "If rX = SP is the prologue's last instruction, the body may move SP by multiples of 4 within the lent stack, not above rX": above the
--- SP that the prologue left. Else it keeps SP
+-- SP in the body (RULES 10.16): as the prologue left it; but if that ended with the copy to rX, any multiple of 4 from the stack's base
+-- up to there
 abbrev pub SpAfter : Undo → (base left now : ℕ) → Type 0
 SpAfter (Up n) base a b = b ≡ a
 SpAfter (Pop l) base a b = b ≡ a
@@ -40,7 +40,7 @@ abbrev pub SpIn : List Code → (base left now : ℕ) → Type 0
 SpIn [] base a b = b ≡ a
 SpIn (c ∷ cs) base a b = SpAfter (c .undo) base a b
 
--- "The body keeps the saved words, SP, that rX, and each of r4-r11, d8-d15, LR that was not saved."
+-- all that is asked of the body: saved values, SP, rX, and what lasts and was not saved
 pub record Body (cs : List Code) (s t : State) : Type 0 where
   pub base : t .stack .base ≡ s .stack .base
   pub long : length (t .stack .bytes) ≡ length (s .stack .bytes)

@@ -1,4 +1,4 @@
--- Demand 3: one frame finds the caller of a function that was stopped at an instruction boundary, whatever its registers were at entry.
+-- Demand 3 (RULES 10.4): one frame finds the caller of a function that stands before an instruction, whatever its registers were at entry.
 use Prim.Native.Nat.{ℕ, _-_, _%_, _≤_, _<_}
 use mathlib.Core.Path.{_≡_}
 use mathlib.Core.List.{List}
@@ -29,9 +29,9 @@ use Rattle.forward.specs.Stop.{Stopped}
 abbrev pub lending : Inputs → Lent → Inputs
 lending t k = record { image = t .image; pdata = t .pdata; xdata = t .xdata; stack = k }
 
--- what is asked of a function that was entered in one state and is now in another
+-- what is asked of a function that was entered in one state and is now in another (RULES 10.6 to 10.19)
 pub record Asked (t : Inputs) (entry now : State) : Type 0 where
-  -- "The tables pass 1 to 3 and the record found is this function's and covers the pc; it passes 4 to 7"
+  -- of the inputs and of the record (RULES 10.6)
   pub passes1 : (fitStack (t .stack) && fitXdata (t .xdata)) ≡ true
   pub own : Entry
   pub found : find (t .image) (t .pdata) (now .regs .pc) ≡ ok (some own)
@@ -42,7 +42,7 @@ pub record Asked (t : Inputs) (entry now : State) : Type 0 where
   pub offset : ℕ
   pub here : offset ≡ even (now .regs .pc) - t .image - own .start
   pub covers : offset < shape .span
-  -- "entry SP is a multiple of 4 and it and the prologue stay in the lent stack"
+  -- of SP at entry (RULES 10.7)
   pub aligned : entry .regs .sp % 4 ≡ 0
   pub lent : entry .regs .sp ≤ end (t .stack)
   pub stack : now .stack ≡ t .stack
@@ -50,8 +50,8 @@ pub record Asked (t : Inputs) (entry now : State) : Type 0 where
   pub undone : List Code
   pub stopped : Stopped own shape view entry offset now place undone
 
--- the answer: the frame is not refused; the caller's SP, pc, r4-r11 and d8-d15 are those at entry, "the return address compared with bit
--- 0 cleared"; the place, the handler and the count of the codes run
+-- the answer: the frame is not refused; the caller has the SP, LR, r4-r11 and d8-d15 of the entry, and for its pc that LR without bit 0;
+-- the place, the handler and the count of the codes run (RULES 10.4)
 pub record Answer (entry : State) (p : Place) (rva : ℕ) (undone : List Code) (c : Unwound) : Type 0 where
   pub given : c .verdict ≡ Given
   pub sp : c .regs .sp ≡ entry .regs .sp
@@ -64,7 +64,7 @@ pub record Answer (entry : State) (p : Place) (rva : ℕ) (undone : List Code) (
   pub handler : c .handler ≡ rva
   pub codes : c .codes ≡ length undone
 
--- "Not read means: other values in those words change nothing in the answer": those at or above the caller's SP
+-- one answer, whatever bytes the stack has at or above the caller's SP (RULES 10.5)
 pub record Finds (unwind : Inputs → Regs → Unwound) (t : Inputs) (entry now : State) (p : Place) (rva : ℕ) (undone : List Code) : Type 0 where
   pub caller : Unwound
   pub found : (k : Lent) → Outside (entry .regs .sp) (end (t .stack)) (t .stack) k → unwind (lending t k) (now .regs) ≡ caller

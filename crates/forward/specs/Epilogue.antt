@@ -1,4 +1,4 @@
--- What an epilogue's instructions do.
+-- What an epilogue's instructions do (RULES 10.17, 10.18).
 use Prim.Native.Nat.{ℕ, _≤_}
 use mathlib.Core.Path.{_≡_}
 use mathlib.Core.Logic.{_⊎_}
@@ -12,16 +12,16 @@ use Rattle.machine.specs.declared.Regs.{Regs}
 use Rattle.forward.specs.Registers.{value}
 use Rattle.forward.specs.State.{State, SameRest}
 
--- "each instruction does what its code does", where what it loads is lent; the pc goes on
+-- an instruction has its code's effect, where what it loads is lent; the pc goes on
 pub record Undoes (u : Undo) (s t : State) : Type 0 where
   pub does : (after : Regs) → effect (s .stack) u (s .regs) ≡ ok after → (t .regs .sp ≡ after .sp) × SameRest after (t .regs)
   pub stack : t .stack ≡ s .stack
 
--- r0-r3, r12 other than rX
+-- the registers that a nop may change: r0-r3 and r12, but not rX
 abbrev pub Free : (rX : ℕ → Type 0) → ℕ → Type 0
 Free rX x = ((x ≤ 3) ⊎ (x ≡ 12)) × (rX x → ⊥)
 
--- "its nops write only r0-r3, r12 other than rX"
+-- a nop changes nothing but those
 pub record Idles (rX : ℕ → Type 0) (s t : State) : Type 0 where
   pub sp : t .regs .sp ≡ s .regs .sp
   pub rest : (x : ℕ) → (Free rX x → ⊥) → value (t .regs) x ≡ value (s .regs) x

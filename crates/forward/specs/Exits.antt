@@ -1,4 +1,4 @@
--- What is asked of an epilogue by its record's kind.
+-- What is asked of an epilogue by its record's kind (RULES 10.18).
 use mathlib.Core.Path.{_≡_}
 use mathlib.Core.Logic.{_≢_}
 use Rattle.words.specs.Bits.{bits}
@@ -8,12 +8,12 @@ use Rattle.packed.specs.Packed.{fields, PF, EF}
 use Rattle.pdata.specs.declared.Entry.{Entry}
 use Rattle.packed.specs.declared.Packed.{Packed}
 
--- "d8-dE if R=1 and Reg is not 7"
+-- the d list is not empty (RULES 4.4)
 abbrev pub SavesD : Packed → Type 0
 SavesD p = (p .r ≡ 1) × (p .reg ≢ 7)
 
 pub data Fit (r : Entry) (sc : Scope) : Type 0 where
-  -- "Full records: its index is 0"
+  -- a full record: the epilogue's codes are those of index 0
   full : bits 0 2 (r .word) ≡ 0 → sc .index ≡ codeBytes 0 → Fit r sc
-  -- "Packed: if d registers are saved, PF = EF."
+  -- a packed record with a d list folds both ways, or neither
   packed : bits 0 2 (r .word) ≢ 0 → (SavesD (fields (r .word)) → PF (fields (r .word)) ≡ EF (fields (r .word))) → Fit r sc

@@ -1,5 +1,5 @@
--- That the conditions of demand 3 can be met: which code lists have a prologue at all, what it is to reach a place of a record, and that
--- every place is reached, from any registers and on from any state in which a function may stand.
+-- That what demand 3 asks can be met (RULES 10.21): which code lists have a prologue at all, what it is to reach a place of a record, and
+-- that every place is reached, from any registers and on from any state in which a function may stand.
 use Prim.Native.Nat.{ℕ, _+_, _-_, _%_, _^_, _≤_, _<_}
 use mathlib.Core.Path.{_≡_}
 use mathlib.Core.Logic.{_≢_}
@@ -36,14 +36,14 @@ use Rattle.forward.specs.Exits.{Fit}
 use Rattle.forward.specs.Stop.{codesOf, Past}
 use Rattle.forward.specs.Demand.{lending, Asked}
 
--- what 01 asks of a rX = SP: rX is a register, it is the only one, and it is saved before if it is r4-r11 or LR
+-- what RULES 10.12 asks of a copy to rX: rX is a register, there was no copy before, and rX is saved if it must last
 pub record FineRX (before : List Code) (x : ℕ) : Type 0 where
   pub named : x < 15
   pub other : x ≢ 13
   pub once : (y : ℕ) → RX before y → ⊥
   pub saved : Lasting x → Saved before x
 
--- what 01 asks of a code, after these codes' instructions
+-- what RULES 10.10 and 10.12 ask of a code, after these codes' instructions
 abbrev pub FineOne : (before : List Code) → Undo → Type 0
 FineOne before (Up n) = Unit {0}
 FineOne before (Pop l) = Unit {0}

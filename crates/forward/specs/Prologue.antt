@@ -1,5 +1,5 @@
--- A prologue's instructions, forwards. "A prologue instruction does the reverse of its code: push, vpush, LR store, sub or rX = SP, all
--- else kept. These steps are defined forwards, not by the undo." The pc goes on and is no part of it.
+-- A prologue's instructions, forwards: what each does to registers and stack, without any undoing (RULES 10.9 to 10.14). The pc goes on and
+-- is no part of it.
 use Prim.Native.Nat.{ℕ, _+_, _<_}
 use mathlib.Core.Path.{_≡_}
 use mathlib.Core.Logic.{_≢_}
@@ -26,34 +26,34 @@ pub record Falls (n upTo : ℕ) (s t : State) : Type 0 where
   pub rest : SameRest (s .regs) (t .regs)
   pub stack : Outside (t .regs .sp) upTo (s .stack) (t .stack)
 
--- push, vpush
+-- push, vpush (RULES 10.9)
 pub record Pushes (xs : List ℕ) (s t : State) : Type 0 where
   pub falls : Falls (bytes xs) (s .regs .sp) s t
   pub stored : Stored (t .stack) (t .regs .sp) xs (s .regs)
 
--- "LR store (SP falls by the amount, LR goes to the new SP)"
+-- SP falls, and LR is stored where it then is (RULES 10.10)
 pub record StoresLr (n : StackWords) (s t : State) : Type 0 where
   pub falls : Falls (stackBytes n) (t .regs .sp + 4) s t
   pub stored : wordAt (t .stack) (t .regs .sp) ≡ s .regs .lr
-  -- "LR stores take at least one word"
+  -- there is room for LR
   pub some : 0 < n .0
 
--- "a sub may also write the words it gains, as push {r0-r3} does for 04"
+-- SP falls, and what it falls over may be written, as by push {r0-r3} (RULES 10.11)
 abbrev pub Subtracts : StackWords → State → State → Type 0
 Subtracts n s t = Falls (stackBytes n) (s .regs .sp) s t
 
--- rX = SP, after the instructions of these codes
+-- SP is copied to rX, after the instructions of these codes (RULES 10.12)
 pub record Frames (before : List Code) (x : ℕ) (s t : State) : Type 0 where
   pub sp : t .regs .sp ≡ s .regs .sp
   pub rX : value (t .regs) x ≡ s .regs .sp
   pub rest : (y : ℕ) → y ≢ x → value (t .regs) y ≡ value (s .regs) y
   pub stack : t .stack ≡ s .stack
-  -- "at most one rX = SP"
+  -- there was no copy before
   pub once : (y : ℕ) → RX before y → ⊥
-  -- "and its rX, if r4-r11 or LR, is saved before"
+  -- rX is saved if it must last
   pub saved : Lasting x → Saved before x
 
--- "A nop changes neither memory, SP nor that rX, nor LR or an r4-r11 not yet saved, nor any d8-d15." A d8-d15 that was saved may change
+-- a nop keeps the stack, SP, rX once it has its copy, and what must last and is not saved yet (RULES 10.13, 11.3)
 pub record Rests (before : List Code) (s t : State) : Type 0 where
   pub stack : t .stack ≡ s .stack
   pub sp : t .regs .sp ≡ s .regs .sp

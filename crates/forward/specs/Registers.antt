@@ -20,6 +20,6 @@ width x = if ltb x 16 then 4 else 8
 abbrev pub held : Lent → (at x : ℕ) → ℕ
 held k a x = if ltb x 16 then wordAt k a else wordAt k a + 2 ^ 32 * wordAt k (a + 4)
 
--- r4-r11, LR, d8-d15: those of the caller
+-- r4-r11, LR, d8-d15: those that must last, since the caller has them back (RULES 10.4)
 abbrev pub Lasting : ℕ → Type 0
 Lasting x = ((4 ≤ x) × (x ≤ 11)) ⊎ ((x ≡ 14) ⊎ ((24 ≤ x) × (x ≤ 31)))

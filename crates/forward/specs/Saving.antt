@@ -1,4 +1,5 @@
--- What a code's instruction saves on the stack, and by how much it lowers SP; what the instructions of a code list have saved.
+-- What a code's instruction saves on the stack, and by how much it lowers SP (RULES 10.9 to 10.11); what the instructions of a code list
+-- have saved.
 use Prim.Native.Nat.{ℕ, zero, suc, _+_, _-_}
 use mathlib.Core.Path.{_≡_}
 use mathlib.Core.Logic.{_⊎_}
@@ -52,7 +53,7 @@ abbrev pub Saved : List Code → ℕ → Type 0
 Saved [] x = ⊥
 Saved (c ∷ cs) x = Among x (saves (c .undo)) ⊎ Saved cs x
 
--- one of them was rX = SP: "that rX"
+-- one of them copied SP to rX, and x is its number (RULES 10.12)
 abbrev pub IsRX : Undo → ℕ → Type 0
 IsRX (Up n) x = ⊥
 IsRX (Pop l) x = ⊥

@@ -1,6 +1,6 @@
 -- A function, entered in a state and stopped at an instruction boundary of its own, with what is to be said of it: the place, which goes
--- by the pc, and the codes of the instructions to undo. "Instructions stand one for each code (none for FF, nor for a prologue's end
--- code), end to end from the function's start or the epilogue's, each of its code's size": so sizes of codes add up to offsets.
+-- by the pc (RULES 10.20), and the codes of the instructions to undo. Each code has its instruction, without gaps (RULES 10.8): so sizes
+-- of codes add up to offsets.
 use Prim.Native.Nat.{ℕ, _+_, _≤_, _<_}
 use mathlib.Core.Path.{_≡_}
 use mathlib.Core.List.{List, _++_}
@@ -26,7 +26,7 @@ use Rattle.forward.specs.Exits.{Fit}
 abbrev pub codesOf : View Code → List Code
 codesOf v = v .codes .list
 
--- the prologue stays in the lent stack: its last SP is its lowest
+-- the prologue found room in the stack (RULES 10.7): its last SP is its lowest
 abbrev pub InStack : State → Type 0
 InStack s = s .stack .base ≤ s .regs .sp
 
@@ -38,8 +38,8 @@ pub record InPrologue (v : View Code) (entry : State) (o : ℕ) (now : State) (u
   pub done : Done entry undone now
   pub stays : InStack now
 
--- the whole prologue was left, and the body kept of it what it must. "Records without prologue start in the state the whole prologue
--- would have left."
+-- the whole prologue was left, and the body kept of it what it must. A function without prologue begins as if one had run
+-- (RULES 10.19)
 pub record Past (cs : List Code) (entry now : State) : Type 0 where
   pub left : State
   pub done : Done entry cs left
@@ -56,16 +56,16 @@ pub record InEpilogue (r : Entry) (s : Shape) (v : View Code) (entry : State) (o
   pub exit : Exit Code
   pub listed : Of scope exit (s .scopes) (v .exits)
   pub fit : Fit r scope
-  -- "The epilogue is unconditional"
+  -- its condition (RULES 10.17)
   pub unconditional : exit .condition ≡ always
   pub gone : List Code
   pub codes : exit .codes .list ≡ gone ++ undone
   pub offset : o ≡ exit .start + total size gone
-  -- "its last one leaves the function"
+  -- it is not past its last instruction
   pub inside : total size gone < exit .size
   pub start : State
   pub past : Past (codesOf v) entry start
-  -- "each instruction does what its code does"
+  -- what its instructions did
   pub ran : Ran (RX (codesOf v)) gone start now
 
 pub data Stopped (r : Entry) (s : Shape) (v : View Code) (entry : State) (o : ℕ) (now : State) : Place → List Code → Type 0 where
