@@ -1,4 +1,4 @@
--- Skipping codes of instructions not yet done, or done, on any machine.
+-- Skipping codes of instructions not yet done, or done, on any machine (RULES 5.8, 5.9).
 use Prim.Native.Nat.{ℕ, zero, suc, _+_, _-_}
 use mathlib.Core.List.{List, [], _∷_}
 use mathlib.Core.Option.{Option, none, some}
