@@ -14,7 +14,7 @@ use Rattle.words.specs.Answer.{if_then_else_}
 use Rattle.unwinding.specs.Taking.{Taken as AnyTaken, one, last, bad, follow}
 use Rattle.unwinding.proofs.Scanning.{Takes, scan-step}
 use Rattle.codes.specs.Table.{Row, rowOf}
-use Rattle.codes.specs.Code.{size, value, taken, takeFrom, takeAt, seen, taking, bytesOf, scan, halves}
+use Rattle.codes.specs.Code.{value, taken, takeFrom, takeAt, seen, taking, bytesOf, scan, halves}
 use Rattle.codes.specs.declared.Code.{Code}
 use Rattle.codes.specs.declared.Meaning.{Meaning}
 use Rattle.codes.specs.declared.Meaning.the-variants.{Does, End, Undefined}
@@ -66,21 +66,19 @@ module _ (i : ℕ) where
   took-last : (left : List ℕ) {n : ℕ} → taking i left ≡ last n → (n ≡ halfwordBytes (rowAt left .size)) × (0 < length left)
   took-last left e = subst (Whence left) e (whence left)
 
-pub takes : Takes size taking bytesOf
+pub takes : Takes taking bytesOf
 unfolding takeFrom
 takes = record {
   empty = λ at. refl;
-  code = λ at b s c next e.
-      let w = took at (b ∷ s) e in
-      let z : c .size .0 ≡ rowOf b .size .0 = ap (λ x. x .0) (w .size) in
-      record { behind = w .behind; some = row-few b .some; there = w .there; sized = omega (arith, row-sized b _ _ (w .means)) };
+  code = λ at b s c next e. let w = took at (b ∷ s) e in record { behind = w .behind; some = row-few b .some; there = w .there };
 }
 
--- instructions have at most two halfwords; an end code stands on a byte
-pub take-size : (s : List ℕ) (i : ℕ) {c : Code} {next : CodeBytes} → taking i (drop i s) ≡ one c next → halves c ≤ 2
+-- a code has an instruction, of at most two halfwords; an end code stands on a byte
+pub take-size : (s : List ℕ) (i : ℕ) {c : Code} {next : CodeBytes} → taking i (drop i s) ≡ one c next → (1 ≤ halves c) × (halves c ≤ 2)
 take-size s i {c} e =
-    let z : c .size .0 ≡ rowAt (drop i s) .size .0 = ap (λ x. x .0) (took i (drop i s) e .size) in
-    omega (arith, row-few (getD (drop i s) 0 0) .small)
+    let w = took i (drop i s) e in
+    let z : c .size .0 ≡ rowAt (drop i s) .size .0 = ap (λ x. x .0) (w .size) in
+    (omega (arith, row-sized (getD (drop i s) 0 0) _ _ (w .means)), omega (arith, row-few (getD (drop i s) 0 0) .small))
 
 pub take-last : (s : List ℕ) (i : ℕ) {n : ℕ} → taking i (drop i s) ≡ last n → (h : ℕ) × (n ≡ 2 * h) × (h ≤ 2) × (i < length s)
 take-last s i e =

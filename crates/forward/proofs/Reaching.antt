@@ -39,11 +39,11 @@ use Rattle.forward.specs.Met as Meeting
 use Rattle.forward.proofs.Back.{St, Inv, inv-near}
 use Rattle.forward.proofs.Flat.{ops, flat}
 use Rattle.forward.proofs.Steps.{seen, st, done-fits, inv-body}
-use Rattle.forward.proofs.Undoing.{Sound, AllSound, effects}
+use Rattle.forward.proofs.Undoing.{Sound, SoundCode, AllSound, effects}
 use Rattle.forward.proofs.Leaving.{left-stack, inv-left}
 use Rattle.forward.proofs.Memory.{outside-same}
-use Rattle.forward.proofs.Scanned.{codes-fair}
-use Rattle.forward.proofs.Ready.{sound-end}
+use Rattle.forward.proofs.Scanned.{codes-sound}
+use Rattle.unwinding.proofs.All.{all-end}
 use Rattle.unwinding.proofs.Viewed.{viewed, read-of}
 use Rattle.forward.proofs.Framed.{fit-second, fit-like}
 use Rattle.forward.proofs.Real.{Real, Bytes, Solid, effect-real}
@@ -262,12 +262,12 @@ leaving {t} {own} {s} {v} e sc ex start mid gone more undone a of fit c q h r p 
     let long : length (k .bytes) ≡ length (e .stack .bytes) = p .keeps .long ∙ d .long in
     let top : e .regs .sp ≤ end k = omega (arith, r .high) in
     let z : ex .codes .list ≡ gone ++ (more ++ undone) = q ∙ append-assoc gone more undone in
-    let sound : AllSound (gone ++ (more ++ undone)) = subst AllSound z (codes-fair _ _ _ (x .codes) .0) in
+    let sound : AllSound (gone ++ (more ++ undone)) = subst AllSound z (codes-sound _ _ _ (x .codes)) in
     let inv = subst (λ l. Inv (k .base) (st e) (flat l) (seen (start .regs)) (wordAt k)) z
     (second .inv _ _ _ _ (inv-body (r .aligned) (p .done) (p .stays) (p .keeps))) in
     let at = inv-left k (st e) (r .aligned) top (RX (codesOf v)) (more ++ undone) sound (λ x b. second .rX x (subst (λ l. RX l x) (sym z) b)) m refl inv in
     let here : mid .stack ≡ k = left-stack m in
-    let g = leave k (st e) (r .aligned) top (RX (codesOf v)) more undone mid (sound-end gone (more ++ undone) sound) here at in
+    let g = leave k (st e) (r .aligned) top (RX (codesOf v)) more undone mid (all-end SoundCode gone (more ++ undone) sound) here at in
     let same : g .now .stack ≡ k = subst (λ (l : Lent). g .now .stack ≡ l) here (left-stack {t = g .now} (g .left)) in (
       reach e (g .now) Epilogue undone a r (g .pc) (ap (λ (l : Lent). l .base) same ∙ base) (ap (λ (l : Lent). length (l .bytes)) same ∙ long)
           (λ b.

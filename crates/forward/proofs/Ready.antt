@@ -2,7 +2,7 @@
 -- Assumes nothing.
 use Prim.Native.Nat.{ℕ, _%_, _≤_}
 use mathlib.Core.Path.{_≡_, refl, sym, subst}
-use mathlib.Core.List.{List, [], _∷_, _++_}
+use mathlib.Core.List.{List, _++_}
 use native.Mathlib.Omega.{arith}
 use borrow.Author.Tests.{eq-eqb}
 use Rattle.words.specs.Lent.{Lent, end, wordAt}
@@ -27,9 +27,11 @@ use Rattle.forward.proofs.Ops.{Seen}
 use Rattle.forward.proofs.Back.{St, Inv}
 use Rattle.forward.proofs.Flat.{flat}
 use Rattle.forward.proofs.Steps.{seen, st, inv-prologue, inv-body}
-use Rattle.forward.proofs.Undoing.{AllSound}
+use Rattle.forward.proofs.Undoing.{SoundCode, AllSound}
 use Rattle.forward.proofs.Leaving.{inv-left, left-stack}
-use Rattle.forward.proofs.Scanned.{codes-fair}
+use Rattle.forward.proofs.Scanned.{codes-sound}
+use Rattle.unwinding.proofs.All.{Sized, all-front, all-end}
+use Rattle.reader.proofs.Sizes.{codes-sized}
 use Rattle.unwinding.proofs.Viewed.{Viewed, read-of}
 use Rattle.unwinding.proofs.Places.{todo-prologue, todo-body, todo-epilogue}
 
@@ -43,25 +45,20 @@ pub record Ready (v : View Code) (entry : State) (o : ℕ) (now : State) (p : Pl
   pub sound : AllSound cs
   pub inv : Inv (now .stack .base) (st entry) (flat cs) (seen (now .regs)) (wordAt (now .stack))
 
-pub sound-end : (a b : List Code) → AllSound (a ++ b) → AllSound b
-sound-end [] b h = h
-sound-end (c ∷ a) b h = sound-end a b (h .1)
-
 module _ (r : Entry) (s : Shape) (v : View Code) (entry : State) (w : Viewed size codesAt s v) (al : entry .regs .sp % 4 ≡ 0) where
   ready-prologue : {o : ℕ} {now : State} {cs : List Code} → InPrologue v entry o now cs → Ready v entry o now Prologue cs
   ready-prologue {o} {cs = cs} h =
-      let f = codes-fair _ _ _ (w .codes) in
       let e : total size cs ≡ o = sym (h .offset) in
       record {
-        todo = subst (λ n. todo size executing v n ≡ ok (record { place = Prologue; codes = cs })) e (todo-prologue size executing v (h .ahead) cs (h .codes) (f .1) (omega (arith, e, h .early)));
-        sound = sound-end (h .ahead) cs (subst AllSound (h .codes) (f .0));
+        todo = subst (λ n. todo size executing v n ≡ ok (record { place = Prologue; codes = cs })) e (todo-prologue size executing v (h .ahead) cs (h .codes) (all-front _ (h .ahead) cs (subst (Sized size) (h .codes) (codes-sized _ _ _ (w .codes)))) (omega (arith, e, h .early)));
+        sound = all-end SoundCode (h .ahead) cs (subst AllSound (h .codes) (codes-sound _ _ _ (w .codes)));
         inv = inv-prologue al (h .done) (h .stays);
       }
 
   ready-body : {o : ℕ} {now : State} → InBody v entry o now → Ready v entry o now Body (codesOf v)
   ready-body {o} h = record {
     todo = todo-body size executing v o (h .late) (h .outside);
-    sound = codes-fair _ _ _ (w .codes) .0;
+    sound = codes-sound _ _ _ (w .codes);
     inv = inv-body al (h .past .done) (h .past .stays) (h .past .keeps);
   }
 
@@ -70,18 +67,17 @@ module _ (r : Entry) (s : Shape) (v : View Code) (entry : State) (w : Viewed siz
       → Ready v entry o now Epilogue cs
   ready-epilogue {o} {now} {cs} h top q =
       let x = read-of size codesAt s (w .exits) (h .listed) in
-      let fair = codes-fair _ _ _ (x .codes) in
       let k : Lent = h .start .stack in
       let stack : now .stack ≡ k = left-stack (h .ran) in
-      let sound : AllSound (h .gone ++ cs) = subst AllSound (h .codes) (fair .0) in
+      let sound : AllSound (h .gone ++ cs) = subst AllSound (h .codes) (codes-sound _ _ _ (x .codes)) in
       let i = q .inv _ _ _ _ (inv-body al (h .past .done) (h .past .stays) (h .past .keeps)) in
       let j = inv-left k (st entry) al (subst (λ (y : Lent). entry .regs .sp ≤ end y) stack top) (RX (codesOf v)) cs sound
       (λ x a. q .rX x (subst (λ y. RX y x) (sym (h .codes)) a)) (h .ran) refl
       (subst (λ y. Inv (k .base) (st entry) (flat y) (seen (h .start .regs)) (wordAt k)) (h .codes) i) in
       record {
         todo = subst (λ n. todo size executing v n ≡ ok (record { place = Epilogue; codes = cs })) (sym (h .offset))
-            (todo-epilogue size executing (s .span) v (h .gone) cs (w .fit) (h .listed) (eq-eqb _ _ (h .unconditional)) (x .long) (fair .1) (h .codes) (h .inside));
-        sound = sound-end (h .gone) cs sound;
+            (todo-epilogue size executing (s .span) v (h .gone) cs (w .fit) (h .listed) (eq-eqb _ _ (h .unconditional)) (x .long) (all-front _ (h .gone) cs (subst (Sized size) (h .codes) (codes-sized _ _ _ (x .codes)))) (h .codes) (h .inside));
+        sound = all-end SoundCode (h .gone) cs sound;
         inv = subst (λ (y : Lent). Inv (y .base) (st entry) (flat cs) (seen (now .regs)) (wordAt y)) (sym stack) j;
       }
 

@@ -1,7 +1,7 @@
--- Every code that is read from code bytes is one of the table's: sound, and with an instruction of some size.
+-- Every code that is read from code bytes is one of the table's, and sound.
 -- Assumes nothing.
 use Prim.Native.Nat.{ℕ, zero, suc, _+_, _^_, _<_}
-use mathlib.Core.Path.{_≡_, ap, subst}
+use mathlib.Core.Path.{_≡_, subst}
 use mathlib.Core.List.{List, [], _∷_}
 use mathlib.Core.Bool.{Bool, true, false, _||_}
 use lib.Dec.{leb, eqb}
@@ -14,16 +14,14 @@ use Rattle.words.specs.declared.CodeBytes.{CodeBytes}
 use Rattle.words.specs.Answer.{ok, if_then_else_}
 use Rattle.unwinding.specs.CodeList.{Codes}
 use Rattle.codes.specs.Table.{Row, rows, rowIn, range, lrIf}
-use Rattle.codes.specs.Code.{size, scan, codesAt}
+use Rattle.codes.specs.Code.{codesAt}
 use Rattle.codes.specs.declared.Code.{Code}
 use Rattle.codes.specs.declared.Meaning.the-variants.{Does, End, Undefined}
 use Rattle.codes.specs.declared.Undo.{Undo}
 use Rattle.codes.specs.declared.Undo.the-variants.{Up, Pop, SpFrom, Vpop, LoadLr, Nothing}
-use Rattle.words.proofs.Answers.{bind-ok}
-use Rattle.unwinding.proofs.Ends.{Sized}
-use Rattle.unwinding.proofs.Scanning.{by-scan, scan-sized}
+use Rattle.unwinding.proofs.Scanning.{codes-all}
 use Rattle.codes.proofs.Scanning.{took, takes}
-use Rattle.forward.proofs.Undoing.{Sound, AllSound}
+use Rattle.forward.proofs.Undoing.{Sound, SoundCode, AllSound}
 
 -- what a row's codes are
 abbrev AllGood : Row → Type 0
@@ -111,13 +109,6 @@ good-in b (_&_ {r = r} {rs = rs} p ps) v u h = go (leb b (r .last)) h (λ q. goo
     go true q ih = p v u q
     go false q ih = ih q
 
--- ---- of each code taken, and so of a list
-scan-sound : (s : List ℕ) (i : CodeBytes) → AllSound (scan s i .list)
-scan-sound s i =
-    by-scan takes s (λ j x. AllSound (x .list)) (λ j c next r e ih. (good-in _ good-rows _ (c .undo) (took j (drop j s) e .means), ih)) (λ j n e. tt) (λ j k e. tt) i
-
-pub codes-fair : (s : List ℕ) (i : CodeBytes) (c : Codes Code) → codesAt s i ≡ ok c → AllSound (c .list) × Sized size (c .list)
-codes-fair s i c h =
-    let e = bind-ok (scan s i .ending) _ c h in
-    let l : scan s i .list ≡ c .list = ap (λ (x : Codes Code). x .list) (let z : record { list = scan s i .list; endSize = e .0 } ≡ c = cc (e .2) in z) in
-    subst (λ l. AllSound l × Sized size l) l (scan-sound s i, scan-sized takes s i)
+-- and so of each code of a list
+pub codes-sound : (s : List ℕ) (i : CodeBytes) (c : Codes Code) → codesAt s i ≡ ok c → AllSound (c .list)
+codes-sound s = codes-all takes SoundCode s (λ j c next e. good-in _ good-rows _ (c .undo) (took j (drop j s) e .means))

@@ -13,6 +13,7 @@ use Rattle.words.specs.Bits.{bit}
 use Rattle.words.specs.Lent.{Lent, end, wordAt}
 use Rattle.words.specs.Answer.{Res, ok, _>>=_, if_then_else_}
 use Rattle.unwinding.specs.CodeList.{run}
+use Rattle.unwinding.proofs.All.{All}
 use Rattle.codes.specs.declared.Code.{Code}
 use Rattle.codes.specs.declared.Undo.{Undo}
 use Rattle.codes.specs.declared.Undo.the-variants.{Up, Pop, SpFrom, Vpop, LoadLr, Nothing}
@@ -38,9 +39,11 @@ Sound (Vpop s e) = e < 32
 Sound (LoadLr n) = Unit {0}
 Sound Nothing = Unit {0}
 
+abbrev pub SoundCode : Code → Type 0
+SoundCode c = Sound (c .undo)
+
 abbrev pub AllSound : List Code → Type 0
-AllSound [] = Unit {0}
-AllSound (c ∷ cs) = Sound (c .undo) × AllSound cs
+AllSound cs = All SoundCode cs
 
 module _ (k : Lent) (e : St) (al : e .sp % 4 ≡ 0) (top : e .sp ≤ end k) where
   -- undoing by `act` finds registers from which the rest is still to be undone, in every stack that agrees below the caller's SP

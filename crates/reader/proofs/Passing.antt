@@ -84,7 +84,7 @@ module _ {m : List ℕ} {i : CodeBytes} (h : Here m i) where
             far = n .far;
             near = n .near;
             kept = plus-plus (h .sum) (halves c) (scanned (scan m next)) ∙ ap (plus (h .sum)) (sym on);
-            light = take-size m (h .at .0) (ap seen e);
+            light = take-size m (h .at .0) (ap seen e) .1;
           }
       go (Last n) e o = absurd (false≢true o)
       go (Bad j) e o = absurd (false≢true o)
@@ -109,7 +109,7 @@ module _ {m : List ℕ} {i : CodeBytes} (h : Here m i) where
         go : (t : Taken) → there ≡ t → h .sum + more t < 2 ^ 64
         go (One c next) e =
             let n = take-next takes m (h .at .0) (ap seen e) in
-            omega (arith, n .far, n .near, take-size m (h .at .0) (ap seen e), h .few)
+            omega (arith, n .far, n .near, take-size m (h .at .0) (ap seen e) .1, h .few)
         go (Last n) e = omega (arith, h .fits)
         go (Bad j) e = omega (arith, h .fits)
 

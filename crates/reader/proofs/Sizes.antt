@@ -1,7 +1,7 @@
 -- Sizes of instructions: each code of a list has at most two halfwords and takes a byte at least, so a list's halfwords are no more than
 -- twice its bytes.
 -- Assumes nothing.
-use Prim.Native.Nat.{ℕ, _+_, _-_, _*_, _/_, _≤_}
+use Prim.Native.Nat.{ℕ, _+_, _-_, _*_, _/_, _≤_, _<_}
 use mathlib.Core.Path.{_≡_, refl, sym, ap, _∙_}
 use mathlib.Core.List.{List, [], _∷_}
 use lib.ListN.{length}
@@ -11,15 +11,20 @@ use native.Mathlib.Nat.{mul-div-cancel-left}
 use Rattle.words.specs.declared.CodeBytes.{CodeBytes}
 use Rattle.words.specs.declared.Refusal.{Refusal}
 use Rattle.words.specs.Answer.{Res, ok, refuse, _>>=_}
-use Rattle.unwinding.specs.CodeList.{total}
+use Rattle.unwinding.specs.CodeList.{Codes, total}
 use Rattle.unwinding.specs.Taking.{Scan}
+use Rattle.unwinding.proofs.All.{Sized}
 use Rattle.unwinding.proofs.Ends.{total-empty, total-step}
-use Rattle.unwinding.proofs.Scanning.{take-next, by-scan}
+use Rattle.unwinding.proofs.Scanning.{take-next, by-scan, codes-all}
 use Rattle.codes.specs.Code.{size, scan, codesAt, halves}
 use Rattle.reader.specs.as_coded.Reading.{scanned}
 use Rattle.codes.specs.declared.Code.{Code}
 use Rattle.reader.specs.declared.Scanned.the-variants.{Ends, Refused}
 use Rattle.codes.proofs.Scanning.{takes, take-size, take-last}
+
+-- each code of a list has an instruction
+pub codes-sized : (s : List ℕ) (i : CodeBytes) (c : Codes Code) → codesAt s i ≡ ok c → Sized size (c .list)
+codes-sized s = codes-all takes (λ c. 0 < size c) s (λ j c next e. omega (arith, take-size s j e .0))
 
 -- sizes in bytes are twice those in halfwords
 pub total-bytes : (cs : List Code) → total size cs ≡ 2 * total halves cs
@@ -41,7 +46,7 @@ within s i =
     (λ j c next r e ih n q.
     let m = take-next takes s j e in
     let w = ih n q in
-    (w .0, omega (arith, m .far, m .near, w .1, take-size s j e, total-step halves c (r .list))))
+    (w .0, omega (arith, m .far, m .near, w .1, take-size s j e .1, total-step halves c (r .list))))
     (λ j z e n q.
     let l = take-last s j e in
     let p : z ≡ n = cc in

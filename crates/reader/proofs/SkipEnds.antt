@@ -24,7 +24,7 @@ codesBehind s Nowhere = none
 pub skip-ends :
     (s : List ℕ) (after n : ℕ) (i : CodeBytes) (k : ℕ) → k + n ≡ total size (scan s i .list) + after
     → endOf size after n (scan s i .list) ≡ codesBehind s (skipAt s i k)
-skip-ends s after n i k h = Law.skip-ends takes s after n i k h ∙ go (Any.skipAt size taking bytesOf s i k)
+skip-ends s after n i k h = Law.skip-ends size takes s after n i k h ∙ go (Any.skipAt size taking bytesOf s i k)
   where
     go : (x : Option CodeBytes) → Law.codesBehind taking bytesOf s x ≡ codesBehind s (shown x)
     go (some p) = refl
@@ -34,5 +34,5 @@ pub skip-ending : (s : List ℕ) (i : CodeBytes) (k : ℕ) (p : CodeBytes) → s
 skip-ending s i k p e = go (Any.skipAt size taking bytesOf s i k) refl e
   where
     go : (x : Option CodeBytes) → Any.skipAt size taking bytesOf s i k ≡ x → shown x ≡ At p → scan s p .ending ≡ scan s i .ending
-    go (some q) f z = let w : some q ≡ some p = cc in Law.skip-ending takes s i k p (f ∙ w)
+    go (some q) f z = let w : some q ≡ some p = cc in Law.skip-ending size takes s i k p (f ∙ w)
     go none f z = absurd (let y : _≡_ {A = ℕ} 0 1 = cc in omega arith)

@@ -1,8 +1,8 @@
--- The end of a code list whose sizes add up to an amount: what is found is such an end; at each instruction boundary one is found, and
--- where the codes have sizes above 0 it is the only one.
+-- The end of a code list whose sizes add up to an amount: what is found is such an end; behind codes that have instructions it is found at
+-- each instruction boundary, and it is the only one.
 -- Assumes nothing.
 use Prim.Native.Nat.{ℕ, _+_, _<_}
-use mathlib.Core.Path.{_≡_, refl, ap, subst}
+use mathlib.Core.Path.{_≡_, refl, ap}
 use mathlib.Core.List.{List, _∷_, _++_, []}
 use mathlib.Core.Bool.{Bool, true, false}
 use mathlib.Core.Option.{none, some}
@@ -11,6 +11,7 @@ use native.Mathlib.Omega.{arith}
 use borrow.Author.Tests.{eqb-true, eq-eqb, ne-eqb}
 use Rattle.words.specs.Answer.{if_then_else_}
 use Rattle.unwinding.specs.CodeList.{total, endOf}
+use Rattle.unwinding.proofs.All.{Sized}
 
 module _ {C : Type 0} (size : C → ℕ) where
   pub total-empty : total size [] ≡ 0
@@ -66,25 +67,20 @@ module _ {C : Type 0} (size : C → ℕ) where
   endOf-short after n [] h = let l : after ≡ n → ⊥ = λ e. omega arith in rw (ne-eqb after n l) refl
   endOf-short after n (c ∷ cs) h = let l : size c + total size cs + after ≡ n → ⊥ = λ e. omega arith in rw (ne-eqb _ _ l) (endOf-short after n cs (omega arith))
 
-  -- each code of the list has an instruction
-  abbrev pub Sized : List C → Type 0
-  Sized [] = Unit {0}
-  Sized (c ∷ cs) = (0 < size c) × Sized cs
-
   -- at an instruction boundary the codes of what is left are found
   pub endOf-boundary :
-      (after n : ℕ) (a l : List C) → Sized (a ++ l) → total size l + after ≡ n → endOf size after n (a ++ l) ≡ some l
+      (after n : ℕ) (a l : List C) → Sized size a → total size l + after ≡ n → endOf size after n (a ++ l) ≡ some l
   unfolding endOf total
   endOf-boundary after n [] l z e = endOf-whole after n l e
   endOf-boundary after n (c ∷ a) l z e =
       let h : size c + total size (a ++ l) + after ≡ n → ⊥ = λ q. omega (arith, total-append a l, z .0) in
       rw (ne-eqb _ _ h) (endOf-boundary after n a l (z .1) e)
 
-  -- and no other end of the list has that size
+  -- and no other end of the list, behind codes with instructions, has that size
   pub endOf-only :
-      (after n : ℕ) (a b k l : List C) → Sized (a ++ k) → a ++ k ≡ b ++ l → total size k + after ≡ n → total size l + after ≡ n → k ≡ l
-  endOf-only after n a b k l z e p q =
-      let x : endOf size after n (a ++ k) ≡ some k = endOf-boundary after n a k z p in
-      let y : endOf size after n (b ++ l) ≡ some l = endOf-boundary after n b l (subst Sized e z) q in
+      (after n : ℕ) (a b k l : List C) → Sized size a → Sized size b → a ++ k ≡ b ++ l → total size k + after ≡ n → total size l + after ≡ n → k ≡ l
+  endOf-only after n a b k l y z e p q =
+      let u : endOf size after n (a ++ k) ≡ some k = endOf-boundary after n a k y p in
+      let v : endOf size after n (b ++ l) ≡ some l = endOf-boundary after n b l z q in
       let w : endOf size after n (a ++ k) ≡ endOf size after n (b ++ l) = ap (endOf size after n) e in
       cc

@@ -1,5 +1,6 @@
 pub mod Opened
 pub mod Running
+pub mod All
 pub mod Ends
 pub mod Scanning
 pub mod Skipping

@@ -2,7 +2,7 @@
 -- them in the body, those of the instructions to come in an epilogue.
 -- Assumes nothing.
 use Prim.Native.Nat.{ℕ, _+_, _-_, _≤_, _<_, min, max}
-use mathlib.Core.Path.{_≡_, refl, ap, _∙_, subst}
+use mathlib.Core.Path.{_≡_, refl, ap, _∙_}
 use mathlib.Core.Bool.{Bool, true, false, _&&_, not}
 use mathlib.Core.Logic.{_⊎_, inl, inr}
 use mathlib.Core.List.{List, [], _∷_, _++_, map}
@@ -17,7 +17,8 @@ use Rattle.unwinding.specs.View.{Exit, View, Stretch, stretch, shared, i
 use Rattle.unwinding.specs.Todo.{left, inExit, inExits, todo}
 use Rattle.unwinding.specs.Listed.{Of, here, later, InNone}
 use Rattle.unwinding.specs.declared.Scope.{Scope}
-use Rattle.unwinding.proofs.Ends.{total-append, Sized, endOf-boundary}
+use Rattle.unwinding.proofs.All.{Sized}
+use Rattle.unwinding.proofs.Ends.{total-append, endOf-boundary}
 use Rattle.words.proofs.Tests.{both}
 
 -- ---- stretches that are apart
@@ -50,7 +51,7 @@ all-apart span v h =
 module _ {C : Type 0} (size : C → ℕ) where
   -- at an instruction boundary what is left is found
   pub left-boundary :
-      (p : Place) (after n : ℕ) (skipped done : List C) → Sized size (skipped ++ done) → total size done + after ≡ n
+      (p : Place) (after n : ℕ) (skipped done : List C) → Sized size skipped → total size done + after ≡ n
       → left size p after n (skipped ++ done) ≡ ok (record { place = p; codes = done })
   unfolding left
   left-boundary p after n skipped done z h = rw (endOf-boundary size after n skipped done z h) refl
@@ -58,12 +59,12 @@ module _ {C : Type 0} (size : C → ℕ) where
 module _ {C : Type 0} (size : C → ℕ) (may : ℕ → Bool) where
   -- ---- in the prologue
   pub todo-prologue :
-      (v : View C) (ahead done : List C) → v .codes .list ≡ ahead ++ done → Sized size (v .codes .list) → total size done < v .prologue
+      (v : View C) (ahead done : List C) → v .codes .list ≡ ahead ++ done → Sized size ahead → total size done < v .prologue
       → todo size may v (total size done) ≡ ok (record { place = Prologue; codes = done })
   unfolding todo
   todo-prologue v ahead done e p h =
       let q : total size done + 0 ≡ total size done = omega arith in
-      rw (lt-ltb _ _ h, e) (left-boundary size Prologue 0 (total size done) ahead done (subst (Sized size) e p) q)
+      rw (lt-ltb _ _ h, e) (left-boundary size Prologue 0 (total size done) ahead done p q)
 
   -- ---- in no epilogue
   exits-none : (es : List (Exit C)) (o : ℕ) (cs : List C) → InNone o es → inExits size may es o cs ≡ ok (record { place = Body; codes = cs })
@@ -85,12 +86,12 @@ module _ {C : Type 0} (size : C → ℕ) (may : ℕ → Bool) where
 
   -- ---- in an epilogue
   pub exit-boundary :
-      (e : Exit C) (o : ℕ) (done rest : List C) → e .codes .list ≡ done ++ rest → Sized size (e .codes .list) → may (e .condition) ≡ true
+      (e : Exit C) (o : ℕ) (done rest : List C) → e .codes .list ≡ done ++ rest → Sized size done → may (e .condition) ≡ true
       → total size rest + e .codes .endSize ≡ e .start + e .size - o
       → inExit size may e o ≡ ok (record { place = Epilogue; codes = rest })
   unfolding inExit
   exit-boundary e o done rest split z c h =
-      rw (split, left-boundary size Epilogue (e .codes .endSize) (e .start + e .size - o) done rest (subst (Sized size) split z) h, c) refl
+      rw (split, left-boundary size Epilogue (e .codes .endSize) (e .start + e .size - o) done rest z h, c) refl
 
   -- of epilogues that are apart, the one that the offset falls into
   found :
@@ -116,7 +117,7 @@ module _ {C : Type 0} (size : C → ℕ) (may : ℕ → Bool) where
       → Of sc ex scs (v .exits)
       → may (ex .condition) ≡ true
       → ex .size ≡ total size (ex .codes .list) + ex .codes .endSize
-      → Sized size (ex .codes .list)
+      → Sized size done
       → ex .codes .list ≡ done ++ rest
       → total size done < ex .size
       → todo size may v (ex .start + total size done) ≡ ok (record { place = Epilogue; codes = rest })

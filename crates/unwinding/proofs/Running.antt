@@ -16,14 +16,6 @@ module _ {C S : Type 0} (step : C → S → Res S) where
   unfolding run
   run-step c cs s = refl
 
-  pub run-one : (c : C) (s : S) → run step (c ∷ []) s ≡ step c s
-  unfolding run
-  run-one c s = go (step c s)
-    where
-      go : (x : Res S) → (x >>= λ t. ok t) ≡ x
-      go (ok t) = refl
-      go (refuse r) = refl
-
   pub run-append : (a b : List C) (s : S) → run step (a ++ b) s ≡ (run step a s >>= λ t. run step b t)
   unfolding run
   run-append [] b s = refl

@@ -9,20 +9,21 @@ use native.Mathlib.Omega.{arith}
 use Rattle.words.specs.Units.{codeBytes}
 use Rattle.words.specs.declared.CodeBytes.{CodeBytes}
 use Rattle.words.specs.Answer.{ok}
-use Rattle.unwinding.specs.Taking.{Taken, one, last, bad, Scan, nothing, follow, scanFrom, scan}
-use Rattle.unwinding.proofs.Ends.{Sized}
+use Rattle.words.proofs.Answers.{bind-ok}
+use Rattle.unwinding.specs.CodeList.{Codes}
+use Rattle.unwinding.specs.Taking.{Taken, one, last, bad, Scan, nothing, follow, scanFrom, scan, codesAt}
+use Rattle.unwinding.proofs.All.{All}
 
--- a code taken has the bytes that its first byte says, they are there, and it has an instruction
-pub record Stands {C : Type 0} (size : C → ℕ) (bytes : ℕ → ℕ) (at b : ℕ) (s : List ℕ) (c : C) (next : CodeBytes) : Type 0 where
+-- a code taken has the bytes that its first byte says, one or more, and they are there
+pub record Present (bytes : ℕ → ℕ) (at b : ℕ) (s : List ℕ) (next : CodeBytes) : Type 0 where
   pub behind : next ≡ codeBytes (at + bytes b)
   pub some : 1 ≤ bytes b
   pub there : bytes b ≤ length (b ∷ s)
-  pub sized : 0 < size c
 
--- what is asked of a machine's codes
-pub record Takes {C : Type 0} (size : C → ℕ) (take : ℕ → List ℕ → Taken C) (bytes : ℕ → ℕ) : Type 0 where
+-- what is asked of how a machine takes its codes
+pub record Takes {C : Type 0} (take : ℕ → List ℕ → Taken C) (bytes : ℕ → ℕ) : Type 0 where
   pub empty : (at : ℕ) → take at [] ≡ bad (codeBytes at)
-  pub code : (at b : ℕ) (s : List ℕ) (c : C) (next : CodeBytes) → take at (b ∷ s) ≡ one c next → Stands size bytes at b s c next
+  pub code : (at b : ℕ) (s : List ℕ) (c : C) (next : CodeBytes) → take at (b ∷ s) ≡ one c next → Present bytes at b s next
 
 -- what is left behind the code that starts with a byte
 drop-less : (b : ℕ) (s : List ℕ) (k : ℕ) → 1 ≤ k → drop (k - 1) s ≡ drop k (b ∷ s)
@@ -32,13 +33,12 @@ drop-less b s (suc k) h = let e : suc k - 1 ≡ k = omega arith in ap (λ n. dro
 pub drop-behind : (s : List ℕ) (i b k : ℕ) (l : List ℕ) → drop i s ≡ b ∷ l → 1 ≤ k → drop (k - 1) l ≡ drop (i + k) s
 drop-behind s i b k l e h = drop-less b l k h ∙ ap (drop k) (sym e) ∙ drop-drop k i s
 
--- what follows it lies further on, within the bytes
-pub record Onward {C : Type 0} (size : C → ℕ) (s : List ℕ) (i : ℕ) (c : C) (next : CodeBytes) : Type 0 where
+-- what follows a code lies further on, within the bytes
+pub record Onward (s : List ℕ) (i : ℕ) (next : CodeBytes) : Type 0 where
   pub far : i < next .0
   pub near : next .0 ≤ length s
-  pub sized : 0 < size c
 
-module _ {C : Type 0} {size : C → ℕ} {take : ℕ → List ℕ → Taken C} {bytes : ℕ → ℕ} (t : Takes size take bytes) where
+module _ {C : Type 0} {take : ℕ → List ℕ → Taken C} {bytes : ℕ → ℕ} (t : Takes take bytes) where
   -- to go on after k bytes is to go on from further back
   scan-drop : (s : List ℕ) (a k : ℕ) → scanFrom take bytes a s k ≡ scanFrom take bytes (a + k) (drop k s) 0
   unfolding scanFrom
@@ -85,16 +85,16 @@ module _ {C : Type 0} {size : C → ℕ} {take : ℕ → List ℕ → Taken C} {
       ∙ scan-drop (l ++ rest) (at + 1) (length l)
       ∙ ap₂ (λ m d. scanFrom take bytes m d 0) (omega arith) (drop-append-seam l rest))
 
-  pub take-next : (s : List ℕ) (i : ℕ) {c : C} {next : CodeBytes} → take i (drop i s) ≡ one c next → Onward size s i c next
+  pub take-next : (s : List ℕ) (i : ℕ) {c : C} {next : CodeBytes} → take i (drop i s) ≡ one c next → Onward s i next
   take-next s i {c} {next} h = go (drop i s) refl h
     where
-      go : (l : List ℕ) → drop i s ≡ l → take i l ≡ one c next → Onward size s i c next
+      go : (l : List ℕ) → drop i s ≡ l → take i l ≡ one c next → Onward s i next
       go [] e q = absurd (let z : _≡_ {A = ℕ} 0 1 = cc (t .empty i) in omega arith)
       go (b ∷ l) e q =
           let w = t .code i b l c next q in
           let n : next .0 ≡ i + bytes b = ap (λ x. x .0) (w .behind) in
           let k : length (b ∷ l) ≡ length s - i = sym (ap length e) ∙ length-drop i s in
-          record { far = omega (arith, w .some); near = omega (arith, w .some, w .there); sized = w .sized }
+          record { far = omega (arith, w .some); near = omega (arith, w .some, w .there) }
 
   -- what holds at an index if it holds behind the code that stands there, if any, holds at each
   module _ (s : List ℕ) (P : ℕ → Type 0) (step : (i : ℕ) → ((c : C) (next : CodeBytes) → take i (drop i s) ≡ one c next → P (next .0)) → P i) where
@@ -122,11 +122,18 @@ module _ {C : Type 0} {size : C → ℕ} {take : ℕ → List ℕ → Taken C} {
           go (last n) e = g j n e
           go (bad k) e = h j k e
 
-  -- each code of a list has an instruction, and takes a byte at least
-  pub scan-sized : (s : List ℕ) (i : CodeBytes) → Sized size (scan take bytes s i .list)
-  scan-sized s i = by-scan s (λ j x. Sized size (x .list)) (λ j c next r e ih. (take-next s j e .sized, ih)) (λ j n e. tt) (λ j k e. tt) i
-
+  -- a list has no more codes than bytes
   pub scan-length : (s : List ℕ) (i : CodeBytes) → length (scan take bytes s i .list) ≤ length s - i .0
   scan-length s i =
       by-scan s (λ j x. length (x .list) ≤ length s - j)
       (λ j c next r e ih. let m = take-next s j e in omega (arith, m .far, m .near)) (λ j n e. omega arith) (λ j k e. omega arith) i
+
+  -- what holds of each code taken holds of each code of a list
+  pub codes-all :
+      (P : C → Type 0) (s : List ℕ) → ((i : ℕ) (c : C) (next : CodeBytes) → take i (drop i s) ≡ one c next → P c)
+      → (i : CodeBytes) (c : Codes C) → codesAt take bytes s i ≡ ok c → All P (c .list)
+  codes-all P s f i c h =
+      let e = bind-ok (scan take bytes s i .ending) _ c h in
+      let z : record { list = scan take bytes s i .list; endSize = e .0 } ≡ c = cc (e .2) in
+      subst (All P) (ap (λ (x : Codes C). x .list) z)
+      (by-scan s (λ j x. All P (x .list)) (λ j a next r q ih. (f j a next q, ih)) (λ j n q. tt) (λ j k q. tt) i)

@@ -24,7 +24,7 @@ use Rattle.unwinding.proofs.Skipping.{skip-none, skip-one, skip-inside,
 abbrev pub codesBehind : {C : Type 0} → (take : ℕ → List ℕ → Taken C) → (bytes : ℕ → ℕ) → List ℕ → Option CodeBytes → Option (List C)
 codesBehind take bytes s x = maybe x none (λ p. some (scan take bytes s p .list))
 
-module _ {C : Type 0} {size : C → ℕ} {take : ℕ → List ℕ → Taken C} {bytes : ℕ → ℕ} (t : Takes size take bytes) (s : List ℕ) where
+module _ {C : Type 0} (size : C → ℕ) {take : ℕ → List ℕ → Taken C} {bytes : ℕ → ℕ} (t : Takes take bytes) (s : List ℕ) where
   -- by what stands at an index
   scan-by : (i : ℕ) {x : Taken C} → take i (drop i s) ≡ x → scan take bytes s (codeBytes i) ≡ follow x (scan take bytes s)
   scan-by i e = scan-step t s i ∙ ap (λ x. follow x (scan take bytes s)) e
@@ -40,7 +40,7 @@ module _ {C : Type 0} {size : C → ℕ} {take : ℕ → List ℕ → Taken C} {
     ends-none : (i k : ℕ) → k ≡ 0 → Ends i k
     ends-none i k z h =
         endOf-whole size after n (codes i) (omega arith)
-        ∙ sym (ap (codesBehind take bytes s) (ap (skipAt size take bytes s (codeBytes i)) z ∙ skip-none t s i))
+        ∙ sym (ap (codesBehind take bytes s) (ap (skipAt size take bytes s (codeBytes i)) z ∙ skip-none size t s i))
 
     -- nothing to take
     ends-empty : (i k : ℕ) → (k ≡ 0 → ⊥) → codes i ≡ [] → skipAt size take bytes s (codeBytes i) k ≡ none → Ends i k
@@ -69,18 +69,18 @@ module _ {C : Type 0} {size : C → ℕ} {take : ℕ → List ℕ → Taken C} {
         go : (x : Bool) → leb (size c) k ≡ x → endOf size after n (codes i) ≡ codesBehind take bytes s (skipAt size take bytes s (codeBytes i) k)
         go true p =
             let v : size c ≤ k = leb-true _ _ p in
-            on ∙ ih (k - size c) (omega (arith, u)) ∙ sym (ap (codesBehind take bytes s) (skip-one t s i k z e v))
+            on ∙ ih (k - size c) (omega (arith, u)) ∙ sym (ap (codesBehind take bytes s) (skip-one size t s i k z e v))
         go false p =
             let v : k < size c = leb-false _ _ p in
-            on ∙ endOf-short size after n (codes (next .0)) (omega (arith, u)) ∙ sym (ap (codesBehind take bytes s) (skip-inside t s i k z e v))
+            on ∙ endOf-short size after n (codes (next .0)) (omega (arith, u)) ∙ sym (ap (codesBehind take bytes s) (skip-inside size t s i k z e v))
 
     ends-here : (i : ℕ) → ((c : C) (next : CodeBytes) → take i (drop i s) ≡ one c next → (m : ℕ) → Ends (next .0) m) → (k : ℕ) → Ends i k
     ends-here i ih k = start (eqb k 0) refl
       where
         by-taken : (k ≡ 0 → ⊥) → (x : Taken C) → take i (drop i s) ≡ x → Ends i k
         by-taken z (one c next) e = ends-one i k c next z e (ih c next e)
-        by-taken z (last y) e = ends-empty i k z (ap (λ x. x .list) (scan-by i e)) (skip-last t s i k z e)
-        by-taken z (bad j) e = ends-empty i k z (ap (λ x. x .list) (scan-by i e)) (skip-bad t s i k z e)
+        by-taken z (last y) e = ends-empty i k z (ap (λ x. x .list) (scan-by i e)) (skip-last size t s i k z e)
+        by-taken z (bad j) e = ends-empty i k z (ap (λ x. x .list) (scan-by i e)) (skip-bad size t s i k z e)
 
         start : (x : Bool) → eqb k 0 ≡ x → Ends i k
         start true e = ends-none i k (eqb-true k 0 e)
@@ -103,17 +103,17 @@ module _ {C : Type 0} {size : C → ℕ} {take : ℕ → List ℕ → Taken C} {
     where
       on : (z : k ≡ 0 → ⊥) (c : C) (next : CodeBytes) → take i (drop i s) ≡ one c next → (x : Bool) → leb (size c) k ≡ x → Same i k
       on z c next e true l p q =
-          ih c next e (k - size c) p (sym (skip-one t s i k z e (leb-true _ _ l)) ∙ q) ∙ sym (ap (λ x. x .ending) (scan-by i e))
-      on z c next e false l p q = never i k (skip-inside t s i k z e (leb-false _ _ l)) p q
+          ih c next e (k - size c) p (sym (skip-one size t s i k z e (leb-true _ _ l)) ∙ q) ∙ sym (ap (λ x. x .ending) (scan-by i e))
+      on z c next e false l p q = never i k (skip-inside size t s i k z e (leb-false _ _ l)) p q
 
       by-taken : (k ≡ 0 → ⊥) → (x : Taken C) → take i (drop i s) ≡ x → Same i k
       by-taken z (one c next) e = on z c next e (leb (size c) k) refl
-      by-taken z (last y) e = never i k (skip-last t s i k z e)
-      by-taken z (bad j) e = never i k (skip-bad t s i k z e)
+      by-taken z (last y) e = never i k (skip-last size t s i k z e)
+      by-taken z (bad j) e = never i k (skip-bad size t s i k z e)
 
       start : (x : Bool) → eqb k 0 ≡ x → Same i k
       start true e p q =
-          let w : some (codeBytes i) ≡ some p = sym (ap (skipAt size take bytes s (codeBytes i)) (eqb-true k 0 e) ∙ skip-none t s i) ∙ q in
+          let w : some (codeBytes i) ≡ some p = sym (ap (skipAt size take bytes s (codeBytes i)) (eqb-true k 0 e) ∙ skip-none size t s i) ∙ q in
           let v : codeBytes i ≡ p = cc in
           ap (λ x. scan take bytes s x .ending) (sym v)
       start false e p q = by-taken (eqb-false k 0 e) (take i (drop i s)) refl p q

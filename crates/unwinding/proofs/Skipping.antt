@@ -15,7 +15,7 @@ use Rattle.unwinding.specs.Taking.{Taken, one, last, bad}
 use Rattle.unwinding.specs.Skip.{over, skipFrom, skipAt}
 use Rattle.unwinding.proofs.Scanning.{Takes, drop-behind}
 
-module _ {C : Type 0} {size : C → ℕ} {take : ℕ → List ℕ → Taken C} {bytes : ℕ → ℕ} (t : Takes size take bytes) where
+module _ {C : Type 0} (size : C → ℕ) {take : ℕ → List ℕ → Taken C} {bytes : ℕ → ℕ} (t : Takes take bytes) where
   -- to go on after k bytes is to go on from further back
   skip-drop : (s : List ℕ) (a k n : ℕ) → skipFrom size take bytes a s k n ≡ skipFrom size take bytes (a + k) (drop k s) 0 n
   unfolding skipFrom

@@ -9,7 +9,7 @@ use borrow.Author.Needs.{needs}
 use Rattle.words.specs.Units.{codeBytes}
 use Rattle.unwinding.proofs.Scanning.{take-next}
 use Rattle.unwinding.proofs.Skipping.{skip-none, skip-one, skip-inside, skip-last, skip-bad}
-use Rattle.codes.specs.Code.{seen}
+use Rattle.codes.specs.Code.{size, seen}
 use Rattle.reader.specs.as_coded.Skip.{shown, skipAt}
 use Rattle.codes.proofs.Scanning.{takes}
 use Rattle.reader.proofs.skip.Statement.{statement}
@@ -39,7 +39,7 @@ returns c =
     let l = c .before .before .before .before .before .before .before .loop in
     let t = c .before .before .before .t .given in
     let e = sym (c .before .before .before .before .before .take-at .ensures) ∙ t .1 in
-    sym (ap shown (skip-inside takes (a .codes .now) (l .i) (l .left) (c .before .before .before .before .before .before .loop-test .taken) (ap seen e) (subst (λ x. l .left < x) (c .before .halfword-bytes .ensures .0) (c .if1 .taken)))) ∙ l .inv
+    sym (ap shown (skip-inside size takes (a .codes .now) (l .i) (l .left) (c .before .before .before .before .before .before .loop-test .taken) (ap seen e) (subst (λ x. l .left < x) (c .before .halfword-bytes .ensures .0) (c .if1 .taken)))) ∙ l .inv
 
 loop-less : tie.Need-loop-less Inv-loop μ-loop
 loop-less c =
@@ -58,7 +58,7 @@ loop-again c =
     let e = sym (c .before .before .before .before .before .take-at .ensures) ∙ t .1 in
     let z = c .before .halfword-bytes .ensures .0 in
     ap (λ x. skipAt (a .codes .now) (t .0 .1 .0) (l .left - x)) z
-    ∙ sym (ap shown (skip-one takes (a .codes .now) (l .i) (l .left) (c .before .before .before .before .before .before .loop-test .taken) (ap seen e) (subst (λ x. x ≤ l .left) z (c .if1 .left))))
+    ∙ sym (ap shown (skip-one size takes (a .codes .now) (l .i) (l .left) (c .before .before .before .before .before .before .loop-test .taken) (ap seen e) (subst (λ x. x ≤ l .left) z (c .if1 .left))))
     ∙ l .inv
 
 enum-told : tie.Need-enum-told Inv-loop μ-loop
@@ -68,7 +68,7 @@ returns-2 : tie.Need-returns-2 Inv-loop μ-loop
 returns-2 c =
     let a = c .before .before .before .before .before .before .args in
     let l = c .before .before .before .before .loop in
-    sym (ap shown (skip-last takes (a .codes .now) (l .i) (l .left) (c .before .before .before .loop-test .taken) (ap seen (sym (c .before .before .take-at .ensures) ∙ c .enum-told .given .1)))) ∙ l .inv
+    sym (ap shown (skip-last size takes (a .codes .now) (l .i) (l .left) (c .before .before .before .loop-test .taken) (ap seen (sym (c .before .before .take-at .ensures) ∙ c .enum-told .given .1)))) ∙ l .inv
 
 enum-told-2 : tie.Need-enum-told-2 Inv-loop μ-loop
 enum-told-2 c = search needs
@@ -77,13 +77,13 @@ returns-3 : tie.Need-returns-3 Inv-loop μ-loop
 returns-3 c =
     let a = c .before .before .before .before .before .before .args in
     let l = c .before .before .before .before .loop in
-    sym (ap shown (skip-bad takes (a .codes .now) (l .i) (l .left) (c .before .before .before .loop-test .taken) (ap seen (sym (c .before .before .take-at .ensures) ∙ c .enum-told2 .given .1)))) ∙ l .inv
+    sym (ap shown (skip-bad size takes (a .codes .now) (l .i) (l .left) (c .before .before .before .loop-test .taken) (ap seen (sym (c .before .before .take-at .ensures) ∙ c .enum-told2 .given .1)))) ∙ l .inv
 
 returns-4 : tie.Need-returns-4 Inv-loop μ-loop
 returns-4 c =
     let a = c .before .before .before .args in
     let l = c .before .loop in
-    sym (ap (skipAt (a .codes .now) (codeBytes (l .i))) (c .loop-test .left) ∙ ap shown (skip-none takes (a .codes .now) (l .i))) ∙ l .inv
+    sym (ap (skipAt (a .codes .now) (codeBytes (l .i))) (c .loop-test .left) ∙ ap shown (skip-none size takes (a .codes .now) (l .i))) ∙ l .inv
 
 pub skip-spec : {M : Type 1} → statement M
 skip-spec =
