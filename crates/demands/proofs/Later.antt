@@ -20,8 +20,8 @@ use Rattle.words.specs.declared.Refusal.the-variants.{UnfitInput, InsideInstruc
 use Rattle.words.specs.Answer.{Res, ok, refuse, _>>=_, _>>_, need, if_then_else_, maybe}
 use Rattle.unwinding.specs.CodeList.{endOf, run}
 use Rattle.unwinding.specs.Shape.{Shape}
-use Rattle.unwinding.specs.View.{Exit, View, view}
-use Rattle.unwinding.specs.Todo.{Todo, left, inExit, inExits, todo}
+use Rattle.unwinding.specs.View.{EpilogueOf, View, view}
+use Rattle.unwinding.specs.Todo.{Todo, left, inEpilogue, inEpilogues, todo}
 use Rattle.codes.specs.declared.Code.{Code}
 use Rattle.codes.specs.Code.{size, codesAt}
 use Rattle.codes.specs.Condition.{executing}
@@ -54,25 +54,25 @@ inner-if : (b : Bool) (x y : Res (Todo Code)) → Inner x → Inner y → Inner 
 inner-if true x y h k = h
 inner-if false x y h k = k
 
-inner-exit : (e : Exit Code) (o : ℕ) → Inner (inExit size executing e o)
-unfolding inExit Inner
-inner-exit e o t q =
+inner-epilogue : (e : EpilogueOf Code) (o : ℕ) → Inner (inEpilogue size executing e o)
+unfolding inEpilogue Inner
+inner-epilogue e o t q =
     let l = left size Epilogue (e .codes .endSize) (e .start + e .size - o) (e .codes .list) in
     let u = bind-ok l (λ t. need (executing (e .condition)) Conditional >> ok t) t q in
     let v = need-ok (executing (e .condition)) Conditional (ok (u .0)) t (u .2) in
     inner-left Epilogue (e .codes .endSize) (e .start + e .size - o) (e .codes .list) (λ q. let z : _≡_ {A = ℕ} 0 1 = cc in omega arith) t (u .1 ∙ v .1)
 
-inner-exits : (es : List (Exit Code)) (o : ℕ) (cs : List Code) → Inner (inExits size executing es o cs)
-unfolding inExits Inner
-inner-exits [] o cs = λ t q z. let y : _≡_ {A = ℕ} 0 1 = cc in omega arith
-inner-exits (e ∷ es) o cs = inner-if (leb (e .start) o && ltb o (e .start + e .size)) (inExit size executing e o) (inExits size executing es o cs) (inner-exit e o) (inner-exits es o cs)
+inner-epilogues : (es : List (EpilogueOf Code)) (o : ℕ) (cs : List Code) → Inner (inEpilogues size executing es o cs)
+unfolding inEpilogues Inner
+inner-epilogues [] o cs = λ t q z. let y : _≡_ {A = ℕ} 0 1 = cc in omega arith
+inner-epilogues (e ∷ es) o cs = inner-if (leb (e .start) o && ltb o (e .start + e .size)) (inEpilogue size executing e o) (inEpilogues size executing es o cs) (inner-epilogue e o) (inner-epilogues es o cs)
 
 inner-todo : (v : View Code) (o : ℕ) → Inner (todo size executing v o)
 unfolding todo
 inner-todo v o =
-    inner-if (ltb o (v .prologue)) (left size Prologue 0 o (v .codes .list)) (inExits size executing (v .exits) o (v .codes .list))
+    inner-if (ltb o (v .prologue)) (left size Prologue 0 o (v .codes .list)) (inEpilogues size executing (v .epilogues) o (v .codes .list))
     (inner-left Prologue 0 o (v .codes .list) (λ q. let z : _≡_ {A = ℕ} 0 1 = cc in omega arith))
-    (inner-exits (v .exits) o (v .codes .list))
+    (inner-epilogues (v .epilogues) o (v .codes .list))
 
 inner-within : (k : Lent) (s : Shape) (o : ℕ) (g : Regs) (c : Caller) → within k s o g ≡ ok c → c .place ≢ Leaf
 unfolding within Inner

@@ -22,8 +22,8 @@ use Rattle.words.specs.declared.Refusal.the-variants.{UnfitInput, PcBelowBase, 
 use Rattle.words.specs.Answer.{Res, ok, refuse, _>>=_, _>>_, need, if_then_else_, maybe}
 use Rattle.unwinding.specs.CodeList.{total, endOf, run}
 use Rattle.unwinding.specs.Shape.{Shape}
-use Rattle.unwinding.specs.View.{Exit, View, ascending, fits, exits, view}
-use Rattle.unwinding.specs.Todo.{Todo, left, inExit, inExits, todo}
+use Rattle.unwinding.specs.View.{EpilogueOf, View, ascending, fits, epilogues, view}
+use Rattle.unwinding.specs.Todo.{Todo, left, inEpilogue, inEpilogues, todo}
 use Rattle.unwinding.specs.declared.Scope.{Scope}
 use Rattle.unwinding.proofs.Scanning.{by-scan}
 use Rattle.codes.specs.Code.{size, scan, codesAt}
@@ -136,16 +136,16 @@ module _ (P : ℕ → Type 0) (all : (k : ℕ) → k ≤ 11 → P k) where
   up-codes : (s : List ℕ) (i : CodeBytes) → Only P (codesAt s i)
   up-codes s i = bound P (scan s i .ending) _ (up-scan s i) (λ k. given P _)
 
-  up-exits : (s : Shape) (l : List Scope) → Only P (exits size codesAt s l)
-  unfolding exits
-  up-exits s [] = given P []
-  up-exits s (e ∷ l) = bound P (codesAt (s .codes) (e .index)) _ (up-codes (s .codes) (e .index)) (λ c. bound P (exits size codesAt s l) _ (up-exits s l) (λ rest. given P _))
+  up-epilogues : (s : Shape) (l : List Scope) → Only P (epilogues size codesAt s l)
+  unfolding epilogues
+  up-epilogues s [] = given P []
+  up-epilogues s (e ∷ l) = bound P (codesAt (s .codes) (e .index)) _ (up-codes (s .codes) (e .index)) (λ c. bound P (epilogues size codesAt s l) _ (up-epilogues s l) (λ rest. given P _))
 
   up-view : (s : Shape) → Only P (view size codesAt s)
   unfolding view
   up-view s =
       bound P (codesAt (s .codes) (codeBytes 0)) _ (up-codes (s .codes) (codeBytes 0))
-      (λ c. bound P (exits size codesAt s (s .scopes)) _ (up-exits s (s .scopes)) (λ es. needed P (fits (s .span) (if s .fragment then 0 else total size (c .list)) es) BadLayout _ (all 7 (omega arith)) (given P _)))
+      (λ c. bound P (epilogues size codesAt s (s .scopes)) _ (up-epilogues s (s .scopes)) (λ es. needed P (fits (s .span) (if s .fragment then 0 else total size (c .list)) es) BadLayout _ (all 7 (omega arith)) (given P _)))
 
   up-left : (p : Place) (after o : ℕ) (cs : List Code) → Only P (left size p after o cs)
   unfolding left
@@ -155,18 +155,18 @@ module _ (P : ℕ → Type 0) (all : (k : ℕ) → k ≤ 11 → P k) where
       go none = refused P InsideInstruction (all 9 (omega arith))
       go (some l) = given P _
 
-  up-exit : (e : Exit Code) (o : ℕ) → Only P (inExit size executing e o)
-  unfolding inExit
-  up-exit e o = bound P (left size _ (e .codes .endSize) (e .start + e .size - o) (e .codes .list)) _ (up-left _ (e .codes .endSize) (e .start + e .size - o) (e .codes .list)) (λ t. needed P (executing (e .condition)) Conditional _ (all 10 (omega arith)) (given P t))
+  up-epilogue : (e : EpilogueOf Code) (o : ℕ) → Only P (inEpilogue size executing e o)
+  unfolding inEpilogue
+  up-epilogue e o = bound P (left size _ (e .codes .endSize) (e .start + e .size - o) (e .codes .list)) _ (up-left _ (e .codes .endSize) (e .start + e .size - o) (e .codes .list)) (λ t. needed P (executing (e .condition)) Conditional _ (all 10 (omega arith)) (given P t))
 
-  up-in : (es : List (Exit Code)) (o : ℕ) (cs : List Code) → Only P (inExits size executing es o cs)
-  unfolding inExits
+  up-in : (es : List (EpilogueOf Code)) (o : ℕ) (cs : List Code) → Only P (inEpilogues size executing es o cs)
+  unfolding inEpilogues
   up-in [] o cs = given P _
-  up-in (e ∷ es) o cs = either-way P (leb (e .start) o && ltb o (e .start + e .size)) (inExit size executing e o) (inExits size executing es o cs) (up-exit e o) (up-in es o cs)
+  up-in (e ∷ es) o cs = either-way P (leb (e .start) o && ltb o (e .start + e .size)) (inEpilogue size executing e o) (inEpilogues size executing es o cs) (up-epilogue e o) (up-in es o cs)
 
   up-todo : (v : View Code) (o : ℕ) → Only P (todo size executing v o)
   unfolding todo
-  up-todo v o = either-way P (ltb o (v .prologue)) _ _ (up-left _ 0 o (v .codes .list)) (up-in (v .exits) o (v .codes .list))
+  up-todo v o = either-way P (ltb o (v .prologue)) _ _ (up-left _ 0 o (v .codes .list)) (up-in (v .epilogues) o (v .codes .list))
 
   up-load : (k : Lent) (a : ℕ) → Only P (load k a)
   unfolding load

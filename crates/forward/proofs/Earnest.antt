@@ -33,7 +33,7 @@ use Rattle.forward.specs.Body as Kept
 use Rattle.forward.specs.Epilogue.{Ran}
 use Rattle.forward.specs.Epilogue as Leaving
 use Rattle.unwinding.specs.Listed.{here}
-use Rattle.forward.specs.Exits.{full, packed}
+use Rattle.forward.specs.Epilogues.{full, packed}
 use Rattle.forward.specs.Stop.{codesOf, Past}
 use Rattle.forward.specs.Demand.{lending, Asked, Demand3}
 use Rattle.forward.specs.Met.{Plain, Reaches, At, Went, stays}

@@ -17,7 +17,7 @@ use Rattle.words.specs.declared.Place.the-variants.{Prologue, Body, Epilogue}
 use Rattle.words.specs.Answer.{Res, ok, orElse}
 use Rattle.unwinding.specs.Shape.{Shape}
 use Rattle.unwinding.specs.CodeList.{total}
-use Rattle.unwinding.specs.View.{Exit, View, view}
+use Rattle.unwinding.specs.View.{EpilogueOf, View, view}
 use Rattle.unwinding.specs.declared.Scope.{Scope}
 use Rattle.codes.specs.Code.{size, codesAt}
 use Rattle.codes.specs.Condition.{always}
@@ -36,7 +36,7 @@ use Rattle.forward.specs.State.{Whole, State}
 use Rattle.forward.specs.Prologue.{Done, none}
 use Rattle.forward.specs.Epilogue.{Ran}
 use Rattle.unwinding.specs.Listed.{Of, here, later, InNone}
-use Rattle.forward.specs.Exits.{Fit, full, packed}
+use Rattle.forward.specs.Epilogues.{Fit, full, packed}
 use Rattle.forward.specs.Stop.{codesOf, Past}
 use Rattle.forward.specs.Met.{FineRX, Fine, room, Plain, Reaches, At, Roomy, Went, Met}
 use Rattle.forward.specs.Met as Meeting
@@ -59,7 +59,7 @@ abbrev pub shape : Tables → Shape
 shape k = orElse (shapeOf (inputs k .xdata) (own k)) (record { span = 0; codes = []; fragment = false; scopes = []; handler = 0 })
 
 abbrev pub views : Tables → View Code
-views k = orElse (view size codesAt (shape k)) (record { codes = record { list = []; endSize = 0 }; prologue = 0; exits = [] })
+views k = orElse (view size codesAt (shape k)) (record { codes = record { list = []; endSize = 0 }; prologue = 0; epilogues = [] })
 
 -- what the frame's tests come to at an offset: they pass, and this is the record
 abbrev pub looks : Tables → ℕ → Bool × Res (Option Entry) × Res Shape × Res (View Code) × ℕ
@@ -117,12 +117,12 @@ module _ (k : Tables) (e : State) (h : Entered e) where
       all .onward e ahead done done [] (from-entry (total size done) a (n .0)) q (sym (append-nil done)) (n .1) f (less-room (n .2) (h .roomy)) none (λ w. w) .0
 
   pub in-body :
-      (o : ℕ) → Looks k o → InNone o (views k .exits) → Fine (codesOf (views k)) → Near k o × (views k .prologue ≤ o) × (room (codesOf (views k)) ≤ 1024)
+      (o : ℕ) → Looks k o → InNone o (views k .epilogues) → Fine (codesOf (views k)) → Near k o × (views k .prologue ≤ o) × (room (codesOf (views k)) ≤ 1024)
       → Reaches (inputs k) e o Body (codesOf (views k))
   in-body o a i f n = all .everywhere o Body (codesOf (views k)) (Meeting.body (n .1) i) (from-entry o a (n .0)) f (less-room (n .2) (h .roomy))
 
   pub in-epilogue :
-      {sc : Scope} {ex : Exit Code} (done todo : List Code) → Looks k (ex .start + total size done) → Of sc ex (shape k .scopes) (views k .exits)
+      {sc : Scope} {ex : EpilogueOf Code} (done todo : List Code) → Looks k (ex .start + total size done) → Of sc ex (shape k .scopes) (views k .epilogues)
       → Fit (own k) sc
       → ex .condition ≡ always
       → ex .codes .list ≡ done ++ todo
@@ -147,7 +147,7 @@ module _ (k : Tables) (e : State) (h : Entered e) where
 
   -- in a state of the body's own
   pub in-used :
-      (o : ℕ) (now : State) → Looks k o → InNone o (views k .exits) → Near k o × (views k .prologue ≤ o) → Past (codesOf (views k)) e now
+      (o : ℕ) (now : State) → Looks k o → InNone o (views k .epilogues) → Near k o × (views k .prologue ≤ o) → Past (codesOf (views k)) e now
       → now .regs .pc ≡ 0x00401000 + o
       → (Plain e → Plain now)
       → (r : Reaches (inputs k) e o Body (codesOf (views k))) × (r .now ≡ now)
@@ -156,8 +156,8 @@ module _ (k : Tables) (e : State) (h : Entered e) where
 
   -- in an epilogue, from states of the body's and the epilogue's own
   pub in-leaving :
-      {sc : Scope} {ex : Exit Code} (start mid : State) (gone more undone : List Code) → Looks k (ex .start + total size (gone ++ more))
-      → Of sc ex (shape k .scopes) (views k .exits)
+      {sc : Scope} {ex : EpilogueOf Code} (start mid : State) (gone more undone : List Code) → Looks k (ex .start + total size (gone ++ more))
+      → Of sc ex (shape k .scopes) (views k .epilogues)
       → Fit (own k) sc
       → ex .condition ≡ always
       → ex .codes .list ≡ (gone ++ more) ++ undone

@@ -18,7 +18,7 @@ use Rattle.words.specs.declared.Refusal.the-variants.{Reserved}
 use Rattle.words.specs.Answer.{ok, _>>=_, _>>_, need, if_then_else_}
 use Rattle.unwinding.specs.CodeList.{Codes}
 use Rattle.unwinding.specs.Shape.{Shape}
-use Rattle.unwinding.specs.View.{Exit, View, view}
+use Rattle.unwinding.specs.View.{EpilogueOf, View, view}
 use Rattle.unwinding.specs.declared.Scope.{Scope}
 use Rattle.codes.specs.Code.{size, codesAt}
 use Rattle.codes.specs.declared.Code.{Code}
@@ -38,7 +38,7 @@ use Rattle.frame.specs.Frame.{Inputs, Caller, fitStack, within, byRecord, frame
 use Rattle.frame.specs.declared.Unwound.{Unwound}
 use Rattle.forward.specs.State.{State, Outside}
 use Rattle.unwinding.specs.Listed.{Of, here, later}
-use Rattle.forward.specs.Exits.{SavesD, Fit, full, packed}
+use Rattle.forward.specs.Epilogues.{SavesD, Fit, full, packed}
 use Rattle.forward.specs.Stop.{codesOf}
 use Rattle.forward.specs.Demand.{lending, Asked, Finds, Demand3}
 use Rattle.forward.proofs.Back.{Near}
@@ -49,9 +49,9 @@ use Rattle.forward.proofs.Within.{finds-in}
 use Rattle.forward.proofs.PackedSecond.{packed-second}
 
 -- ---- the second list of a full record is its first
-same-list : (s : Shape) (v : View Code) (sc : Scope) (ex : Exit Code) → Viewed size codesAt s v → Of sc ex (s .scopes) (v .exits) → sc .index ≡ codeBytes 0 → Second (codesOf v) (ex .codes .list)
+same-list : (s : Shape) (v : View Code) (sc : Scope) (ex : EpilogueOf Code) → Viewed size codesAt s v → Of sc ex (s .scopes) (v .epilogues) → sc .index ≡ codeBytes 0 → Second (codesOf v) (ex .codes .list)
 same-list s v sc ex w m h =
-    let x = read-of size codesAt s (w .exits) m in
+    let x = read-of size codesAt s (w .epilogues) m in
     let e : ok (v .codes) ≡ ok (ex .codes) = sym (w .codes) ∙ ap (codesAt (s .codes)) (sym h) ∙ x .codes in
     let l : codesOf v ≡ ex .codes .list = ap (λ (c : Codes Code). c .list) (let z : v .codes ≡ ex .codes = cc in z) in
     subst (Second (codesOf v)) l (record { inv = λ base e b m v. v; rX = λ x q. q })
@@ -84,13 +84,13 @@ is-packed w s h = go (allowed (fields w)) refl h
 
 -- the only scope
 only :
-    {sc : Scope} {ex : Exit Code} {scs : List Scope} {exs : List (Exit Code)} (ret : ℕ) (i : CodeBytes) → Of sc ex scs exs
+    {sc : Scope} {ex : EpilogueOf Code} {scs : List Scope} {exs : List (EpilogueOf Code)} (ret : ℕ) (i : CodeBytes) → Of sc ex scs exs
     → scs ≡ (if eqb ret 3 then [] else lastScope i ∷ [])
     → (ret ≢ 3) × (sc .index ≡ i)
 only ret i m h = go (eqb ret 3) refl m h
   where
     go :
-        {sc : Scope} {ex : Exit Code} {scs : List Scope} {exs : List (Exit Code)} (t : Bool) → eqb ret 3 ≡ t → Of sc ex scs exs
+        {sc : Scope} {ex : EpilogueOf Code} {scs : List Scope} {exs : List (EpilogueOf Code)} (t : Bool) → eqb ret 3 ≡ t → Of sc ex scs exs
         → scs ≡ (if t then [] else lastScope i ∷ [])
         → (ret ≢ 3) × (sc .index ≡ i)
     go true e here q = absurd (let z : _≡_ {A = ℕ} 0 1 = cc in omega arith)
@@ -98,12 +98,12 @@ only ret i m h = go (eqb ret 3) refl m h
     go {sc} false e (here {scs = scs}) q = (eqb-false ret 3 e, ap (λ (x : Scope). x .index) (let z : sc ≡ lastScope i = cc in z))
     go false e (later {a = a} {scs = scs} m) q = absurd (empty m (let z : scs ≡ [] = cc in z))
       where
-        empty : {sc : Scope} {ex : Exit Code} {scs : List Scope} {exs : List (Exit Code)} → Of sc ex scs exs → scs ≡ [] → ⊥
+        empty : {sc : Scope} {ex : EpilogueOf Code} {scs : List Scope} {exs : List (EpilogueOf Code)} → Of sc ex scs exs → scs ≡ [] → ⊥
         empty here q = let z : _≡_ {A = ℕ} 0 1 = cc in omega arith
         empty (later m) q = let z : _≡_ {A = ℕ} 0 1 = cc in omega arith
 
 packed-list :
-    (w : ℕ) (s : Shape) (v : View Code) (sc : Scope) (ex : Exit Code) → packedShape w ≡ ok s → Viewed size codesAt s v → Of sc ex (s .scopes) (v .exits)
+    (w : ℕ) (s : Shape) (v : View Code) (sc : Scope) (ex : EpilogueOf Code) → packedShape w ≡ ok s → Viewed size codesAt s v → Of sc ex (s .scopes) (v .epilogues)
     → (SavesD (fields w) → PF (fields w) ≡ EF (fields w))
     → Second (codesOf v) (ex .codes .list)
 packed-list w s v sc ex h y m d =
@@ -111,7 +111,7 @@ packed-list w s v sc ex h y m d =
     let i = is-packed w s h in
     let hs = holds p (fields-fit w) in
     let o = only (p .ret) (written p .first) m (i .scopes) in
-    let x = read-of size codesAt s (y .exits) m in
+    let x = read-of size codesAt s (y .epilogues) m in
     let a : v .codes ≡ prologueCodes p = given (sym (y .codes) ∙ ap (λ l. codesAt l (codeBytes 0)) (i .codes) ∙ hs .first .read) in
     let b : ex .codes ≡ epilogueCodes p = given (sym (x .codes) ∙ ap₂ codesAt (i .codes) (o .1) ∙ hs .second (o .0) .read) in
     rw (a, b) (packed-second p (fields-fit w) (i .allowed) d)
@@ -121,7 +121,7 @@ packed-list w s v sc ex h y m d =
 
 -- ---- by the record's kind
 pub fit-second :
-    (t : Lent) (r : Entry) (s : Shape) (v : View Code) → shapeOf t r ≡ ok s → Viewed size codesAt s v → (sc : Scope) (ex : Exit Code) → Of sc ex (s .scopes) (v .exits) → Fit r sc
+    (t : Lent) (r : Entry) (s : Shape) (v : View Code) → shapeOf t r ≡ ok s → Viewed size codesAt s v → (sc : Scope) (ex : EpilogueOf Code) → Of sc ex (s .scopes) (v .epilogues) → Fit r sc
     → Second (codesOf v) (ex .codes .list)
 fit-second t r s v h y sc ex m (full z i) = same-list s v sc ex y m i
 fit-second t r s v h y sc ex m (packed z d) = packed-list (r .word) s v sc ex (rw (ne-eqb (bits 0 2 (r .word)) 0 z) at h) y m d

@@ -24,7 +24,7 @@ use Rattle.packed_codes.specs.Lists.{only, sizeIf, ups, vpops, pops, nops, home
 use Rattle.packed_codes.proofs.Decoding.{prologue-is}
 use Rattle.forward.specs.Registers.{Lasting}
 use Rattle.forward.specs.Saving.{listed, upward, IsRX, RX}
-use Rattle.forward.specs.Exits.{SavesD}
+use Rattle.forward.specs.Epilogues.{SavesD}
 use Rattle.forward.proofs.Ops.{Op, skip, load, Seen, Need}
 use Rattle.forward.proofs.Back.{St, Inv}
 use Rattle.forward.proofs.Flat.{loads, flat, flat-append, loads-append, lasting-range}

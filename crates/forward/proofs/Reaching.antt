@@ -254,7 +254,7 @@ leaving : {t : Inputs} {own : Entry} {s : Shape} {v : View Code} (e : State) →
 unfolding reach
 leaving {t} {own} {s} {v} e sc ex start mid gone more undone a of fit c q h r p m w =
     let y = viewed size codesAt s v (a .passes6-7) in
-    let x = read-of size codesAt s (y .exits) of in
+    let x = read-of size codesAt s (y .epilogues) of in
     let second = fit-second (t .xdata) own s v (a .passes4-5) y sc ex of fit in
     let k : Lent = start .stack in
     let d = done-place (p .done) in
@@ -276,7 +276,7 @@ leaving {t} {own} {s} {v} e sc ex start mid gone more undone a of fit c q h r p 
           record { real = g .real bytes (i .real); bytes = subst Bytes (sym same) bytes; sp = omega (arith, g .sp, b .sp) })
           (epilogue (record {
             scope = sc;
-            exit = ex;
+            read = ex;
             listed = of;
             fit = fit;
             unconditional = c;

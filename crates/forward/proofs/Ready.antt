@@ -11,7 +11,7 @@ use Rattle.words.specs.declared.Place.the-variants.{Prologue, Body, Epilogue}
 use Rattle.words.specs.Answer.{ok}
 use Rattle.unwinding.specs.CodeList.{total}
 use Rattle.unwinding.specs.Shape.{Shape}
-use Rattle.unwinding.specs.View.{Exit, View}
+use Rattle.unwinding.specs.View.{EpilogueOf, View}
 use Rattle.unwinding.specs.Todo.{todo}
 use Rattle.unwinding.specs.declared.Scope.{Scope}
 use Rattle.codes.specs.Code.{size, codesAt}
@@ -21,7 +21,7 @@ use Rattle.pdata.specs.declared.Entry.{Entry}
 use Rattle.forward.specs.Saving.{RX}
 use Rattle.forward.specs.State.{State}
 use Rattle.unwinding.specs.Listed.{Of}
-use Rattle.forward.specs.Exits.{Fit}
+use Rattle.forward.specs.Epilogues.{Fit}
 use Rattle.forward.specs.Stop.{codesOf, InPrologue, InBody, InEpilogue, Stopped, prologue, body, epilogue}
 use Rattle.forward.proofs.Ops.{Seen}
 use Rattle.forward.proofs.Back.{St, Inv}
@@ -63,10 +63,10 @@ module _ (r : Entry) (s : Shape) (v : View Code) (entry : State) (w : Viewed siz
   }
 
   ready-epilogue :
-      {o : ℕ} {now : State} {cs : List Code} (h : InEpilogue r s v entry o now cs) → entry .regs .sp ≤ end (now .stack) → Second (codesOf v) (h .exit .codes .list)
+      {o : ℕ} {now : State} {cs : List Code} (h : InEpilogue r s v entry o now cs) → entry .regs .sp ≤ end (now .stack) → Second (codesOf v) (h .read .codes .list)
       → Ready v entry o now Epilogue cs
   ready-epilogue {o} {now} {cs} h top q =
-      let x = read-of size codesAt s (w .exits) (h .listed) in
+      let x = read-of size codesAt s (w .epilogues) (h .listed) in
       let k : Lent = h .start .stack in
       let stack : now .stack ≡ k = left-stack (h .ran) in
       let sound : AllSound (h .gone ++ cs) = subst AllSound (h .codes) (codes-sound _ _ _ (x .codes)) in
@@ -83,10 +83,10 @@ module _ (r : Entry) (s : Shape) (v : View Code) (entry : State) (w : Viewed siz
 
   pub ready :
       {o : ℕ} {now : State} {p : Place} {cs : List Code}
-      → ((sc : Scope) (ex : Exit Code) → Of sc ex (s .scopes) (v .exits) → Fit r sc → Second (codesOf v) (ex .codes .list))
+      → ((sc : Scope) (ex : EpilogueOf Code) → Of sc ex (s .scopes) (v .epilogues) → Fit r sc → Second (codesOf v) (ex .codes .list))
       → entry .regs .sp ≤ end (now .stack)
       → Stopped r s v entry o now p cs
       → Ready v entry o now p cs
   ready second top (prologue h) = ready-prologue h
   ready second top (body h) = ready-body h
-  ready second top (epilogue h) = ready-epilogue h top (second (h .scope) (h .exit) (h .listed) (h .fit))
+  ready second top (epilogue h) = ready-epilogue h top (second (h .scope) (h .read) (h .listed) (h .fit))

@@ -4,7 +4,7 @@ pub mod State
 pub mod Prologue
 pub mod Body
 pub mod Epilogue
-pub mod Exits
+pub mod Epilogues
 pub mod Stop
 pub mod Demand
 pub mod Met

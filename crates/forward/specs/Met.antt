@@ -14,7 +14,7 @@ use Rattle.words.specs.declared.Place.the-variants.{Prologue, Body, Epilogue}
 use Rattle.words.specs.Answer.{ok}
 use Rattle.unwinding.specs.CodeList.{total}
 use Rattle.unwinding.specs.Shape.{Shape}
-use Rattle.unwinding.specs.View.{Exit, View, view}
+use Rattle.unwinding.specs.View.{EpilogueOf, View, view}
 use Rattle.unwinding.specs.declared.Scope.{Scope}
 use Rattle.codes.specs.Code.{size, codesAt}
 use Rattle.codes.specs.Condition.{always}
@@ -32,7 +32,7 @@ use Rattle.forward.specs.State.{State}
 use Rattle.forward.specs.Prologue.{Does, Done}
 use Rattle.forward.specs.Epilogue.{Ran}
 use Rattle.unwinding.specs.Listed.{Of, InNone}
-use Rattle.forward.specs.Exits.{Fit}
+use Rattle.forward.specs.Epilogues.{Fit}
 use Rattle.forward.specs.Stop.{codesOf, Past}
 use Rattle.forward.specs.Demand.{lending, Asked}
 
@@ -101,9 +101,9 @@ pub data Boundary (own : Entry) (s : Shape) (v : View Code) : ℕ → Place → 
   prologue :
       (ahead undone : List Code) → codesOf v ≡ ahead ++ undone → total size undone < v .prologue
       → Boundary own s v (total size undone) Prologue undone
-  body : {o : ℕ} → v .prologue ≤ o → InNone o (v .exits) → Boundary own s v o Body (codesOf v)
+  body : {o : ℕ} → v .prologue ≤ o → InNone o (v .epilogues) → Boundary own s v o Body (codesOf v)
   epilogue :
-      {sc : Scope} {ex : Exit Code} (gone undone : List Code) → Of sc ex (s .scopes) (v .exits) → Fit own sc → ex .condition ≡ always
+      {sc : Scope} {ex : EpilogueOf Code} (gone undone : List Code) → Of sc ex (s .scopes) (v .epilogues) → Fit own sc → ex .condition ≡ always
       → ex .codes .list ≡ gone ++ undone
       → total size gone < ex .size
       → Boundary own s v (ex .start + total size gone) Epilogue undone
@@ -163,7 +163,7 @@ Used t own s v e =
     (o : ℕ) (now : State)
     → At t own s v (now .regs .pc) o
     → v .prologue ≤ o
-    → InNone o (v .exits)
+    → InNone o (v .epilogues)
     → Roomy e 0
     → Past (codesOf v) e now
     → (Plain e → Plain now)
@@ -172,9 +172,9 @@ Used t own s v e =
 -- in an epilogue: from any state that the body may leave, and some of the epilogue's instructions then, a later boundary
 abbrev pub Leaving : Inputs → Entry → Shape → View Code → State → Type 0
 Leaving t own s v e =
-    (sc : Scope) (ex : Exit Code) (start mid : State) (gone more undone : List Code)
+    (sc : Scope) (ex : EpilogueOf Code) (start mid : State) (gone more undone : List Code)
     → At t own s v (mid .regs .pc + total size more) (ex .start + total size (gone ++ more))
-    → Of sc ex (s .scopes) (v .exits)
+    → Of sc ex (s .scopes) (v .epilogues)
     → Fit own sc
     → ex .condition ≡ always
     → ex .codes .list ≡ (gone ++ more) ++ undone

@@ -8,7 +8,7 @@ use Rattle.words.specs.declared.Place.{Place}
 use Rattle.words.specs.declared.Place.the-variants.{Prologue, Body, Epilogue}
 use Rattle.unwinding.specs.CodeList.{total}
 use Rattle.unwinding.specs.Shape.{Shape}
-use Rattle.unwinding.specs.View.{View, Exit}
+use Rattle.unwinding.specs.View.{View, EpilogueOf}
 use Rattle.unwinding.specs.declared.Scope.{Scope}
 use Rattle.codes.specs.Code.{size}
 use Rattle.codes.specs.Condition.{always}
@@ -20,7 +20,7 @@ use Rattle.forward.specs.Prologue.{Done}
 use Rattle.forward.specs.Body as Kept
 use Rattle.forward.specs.Epilogue.{Ran}
 use Rattle.unwinding.specs.Listed.{Of, InNone}
-use Rattle.forward.specs.Exits.{Fit}
+use Rattle.forward.specs.Epilogues.{Fit}
 
 -- the codes from index 0
 abbrev pub codesOf : View Code → List Code
@@ -48,21 +48,21 @@ pub record Past (cs : List Code) (entry now : State) : Type 0 where
 
 pub record InBody (v : View Code) (entry : State) (o : ℕ) (now : State) : Type 0 where
   pub late : v .prologue ≤ o
-  pub outside : InNone o (v .exits)
+  pub outside : InNone o (v .epilogues)
   pub past : Past (codesOf v) entry now
 
 pub record InEpilogue (r : Entry) (s : Shape) (v : View Code) (entry : State) (o : ℕ) (now : State) (undone : List Code) : Type 0 where
   pub scope : Scope
-  pub exit : Exit Code
-  pub listed : Of scope exit (s .scopes) (v .exits)
+  pub read : EpilogueOf Code
+  pub listed : Of scope read (s .scopes) (v .epilogues)
   pub fit : Fit r scope
   -- its condition (RULES 10.17)
-  pub unconditional : exit .condition ≡ always
+  pub unconditional : read .condition ≡ always
   pub gone : List Code
-  pub codes : exit .codes .list ≡ gone ++ undone
-  pub offset : o ≡ exit .start + total size gone
+  pub codes : read .codes .list ≡ gone ++ undone
+  pub offset : o ≡ read .start + total size gone
   -- it is not past its last instruction
-  pub inside : total size gone < exit .size
+  pub inside : total size gone < read .size
   pub start : State
   pub past : Past (codesOf v) entry start
   -- what its instructions did

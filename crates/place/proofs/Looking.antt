@@ -21,43 +21,43 @@ use Rattle.record.proofs.Shapes.{scopes-next}
 use Rattle.record.specs.as_coded.Plan.{scopeIn, scopesFrom}
 use Rattle.record.specs.declared.Scopes.{Scopes}
 use Rattle.words.specs.Units.{codeBytes, halfwords, halfwordBytes}
-use Rattle.place.specs.as_coded.Look.{wayOf, wayRead, see, lookFrom, unseen, judged, noSpot, inSeen, spotOf}
+use Rattle.place.specs.as_coded.Look.{epilogueSpan, epilogueRead, see, lookFrom, unseen, judged, noSpot, inSeen, spotOf}
 use Rattle.place.proofs.Placing.{view-looked, view-unread}
-use Rattle.place.specs.declared.Way.{Way}
-use Rattle.place.specs.declared.WayOf.the-variants.{Made, NoWay}
+use Rattle.place.specs.declared.EpilogueSpan.{EpilogueSpan}
+use Rattle.place.specs.declared.EpilogueRead.the-variants.{Made, Unread}
 use Rattle.place.specs.declared.Seen.{Seen}
 use Rattle.place.specs.declared.Looked.the-variants.{All, Bad}
 
 -- the epilogue of a scope, by the pass over its codes
-pub way-made :
+pub span-made :
     (s : List ℕ) (span : ℕ) (e : Scope) (h t n : ℕ) → scanned (scan s (e .index)) ≡ Ends h t → n ≡ halfwordBytes (halfwords (h + t))
-    → Made (record { start = startOf (e .start) span n; size = n; condition = e .condition; index = e .index }) ≡ wayRead span e (codesAt s (e .index))
-way-made s span e h t n q z =
+    → Made (record { start = startOf (e .start) span n; size = n; condition = e .condition; index = e .index }) ≡ epilogueRead span e (codesAt s (e .index))
+span-made s span e h t n q z =
     let m = scanned-ends s (e .index) h t q in
     let b : n ≡ total size (scan s (e .index) .list) + halfwordBytes (halfwords t) = omega (arith, z, m .list-bytes) in
     ap (λ k. Made (record { start = startOf (e .start) span k; size = k; condition = e .condition; index = e .index })) b
-    ∙ sym (ap (wayRead span e) (codes-end s (e .index) h t q))
+    ∙ sym (ap (epilogueRead span e) (codes-end s (e .index) h t q))
 
-pub way-bad : (s : List ℕ) (span : ℕ) (e : Scope) (r : Refusal) → scanned (scan s (e .index)) ≡ Refused r → NoWay r ≡ wayRead span e (codesAt s (e .index))
-way-bad s span e r q = sym (ap (wayRead span e) (codes-refused s (e .index) r q))
+pub span-bad : (s : List ℕ) (span : ℕ) (e : Scope) (r : Refusal) → scanned (scan s (e .index)) ≡ Refused r → Unread r ≡ epilogueRead span e (codesAt s (e .index))
+span-bad s span e r q = sym (ap (epilogueRead span e) (codes-refused s (e .index) r q))
 
 -- the pass with that scope in front
 module _ (s : List ℕ) (span o : ℕ) (seen : Seen) (e : Scope) (es : List Scope) where
-  pub look-made : (w : Way) → wayRead span e (codesAt s (e .index)) ≡ Made w → lookFrom s span o seen (e ∷ es) ≡ lookFrom s span o (see span o seen w) es
+  pub look-made : (w : EpilogueSpan) → epilogueRead span e (codesAt s (e .index)) ≡ Made w → lookFrom s span o seen (e ∷ es) ≡ lookFrom s span o (see span o seen w) es
   unfolding lookFrom
   look-made w q = go (codesAt s (e .index)) q
     where
       go :
-          (x : Res (Codes Code)) → wayRead span e x ≡ Made w
-          → either x Bad (λ c. lookFrom s span o (see span o seen (wayOf span e c)) es) ≡ lookFrom s span o (see span o seen w) es
-      go (ok c) p = let v : wayOf span e c ≡ w = cc in ap (λ y. lookFrom s span o (see span o seen y) es) v
+          (x : Res (Codes Code)) → epilogueRead span e x ≡ Made w
+          → either x Bad (λ c. lookFrom s span o (see span o seen (epilogueSpan span e c)) es) ≡ lookFrom s span o (see span o seen w) es
+      go (ok c) p = let v : epilogueSpan span e c ≡ w = cc in ap (λ y. lookFrom s span o (see span o seen y) es) v
       go (refuse r) p = absurd (let z : _≡_ {A = ℕ} 0 1 = cc in omega arith)
 
-  pub look-bad : (r : Refusal) → wayRead span e (codesAt s (e .index)) ≡ NoWay r → lookFrom s span o seen (e ∷ es) ≡ Bad r
+  pub look-bad : (r : Refusal) → epilogueRead span e (codesAt s (e .index)) ≡ Unread r → lookFrom s span o seen (e ∷ es) ≡ Bad r
   unfolding lookFrom
   look-bad r q = go (codesAt s (e .index)) q
     where
-      go : (x : Res (Codes Code)) → wayRead span e x ≡ NoWay r → either x Bad (λ c. lookFrom s span o (see span o seen (wayOf span e c)) es) ≡ Bad r
+      go : (x : Res (Codes Code)) → epilogueRead span e x ≡ Unread r → either x Bad (λ c. lookFrom s span o (see span o seen (epilogueSpan span e c)) es) ≡ Bad r
       go (ok c) p = absurd (let z : _≡_ {A = ℕ} 0 1 = cc in omega arith)
       go (refuse t) p = let v : t ≡ r = cc in ap Bad v
 
@@ -71,11 +71,11 @@ module _ (s x : List ℕ) (c : Scopes) (span o : ℕ) (seen : Seen) (k n : ℕ) 
   first = scopes-next c x k n h ∙ ap (λ y. y ∷ scopesFrom c x (k + 1) (n - (k + 1))) (sym here)
 
   pub turn-made :
-      (w : Way) → wayRead span e (codesAt s (e .index)) ≡ Made w
+      (w : EpilogueSpan) → epilogueRead span e (codesAt s (e .index)) ≡ Made w
       → lookFrom s span o (see span o seen w) (scopesFrom c x (k + 1) (n - (k + 1))) ≡ lookFrom s span o seen (scopesFrom c x k (n - k))
   turn-made w q = sym (ap (lookFrom s span o seen) first ∙ look-made s span o seen e (scopesFrom c x (k + 1) (n - (k + 1))) w q)
 
-  pub turn-bad : (r : Refusal) → wayRead span e (codesAt s (e .index)) ≡ NoWay r → Bad r ≡ lookFrom s span o seen (scopesFrom c x k (n - k))
+  pub turn-bad : (r : Refusal) → epilogueRead span e (codesAt s (e .index)) ≡ Unread r → Bad r ≡ lookFrom s span o seen (scopesFrom c x k (n - k))
   turn-bad r q = sym (ap (lookFrom s span o seen) first ∙ look-bad s span o seen e (scopesFrom c x (k + 1) (n - (k + 1))) r q)
 
 -- the whole pass, once the codes from index 0 are read

@@ -1,9 +1,9 @@
 // The epilogues of a record in one pass: what refusals 6 and 7 ask of them, and the one that an offset falls into.
-use super::Hit;
+use super::EpilogueRead;
+use super::EpilogueSpan;
+use super::Here;
 use super::Looked;
 use super::Seen;
-use super::Way;
-use super::WayOf;
 use reader::Scanned;
 use record::Plan;
 use unwinding::Scope;
@@ -25,7 +25,7 @@ ghost use Rattle.unwinding.specs.Shape.{startOf};
 ghost use Rattle.codes.specs.Code.{size, codesAt, scan as scanOf};
 ghost use Rattle.reader.specs.as_coded.Reading.{scanned};
 ghost use Rattle.record.specs.as_coded.Plan.{scopesFrom, shapeBy};
-ghost use Rattle.place.specs.as_coded.Look.{wayRead, wayEnd, hitOf, see as seeOf, lookFrom, judged as judgedOf, unseen as unseenOf};
+ghost use Rattle.place.specs.as_coded.Look.{epilogueRead, epilogueEnd, hereOf, see as seeOf, lookFrom, judged as judgedOf, unseen as unseenOf};
 
 // Where an epilogue of this size starts in a function of this length (RULES 5.4).
 fn start_of(start: Start, span: u64, size: u64) -> u64
@@ -58,23 +58,23 @@ fn bytes_of(count: u64) -> u64
 }
 
 // The epilogue of a scope, by the pass over its codes.
-fn way_of(e: Scope, found: Scanned, span: u64) -> WayOf
+fn epilogue_span(e: Scope, found: Scanned, span: u64) -> EpilogueRead
     requires { ⌜ ((s : List ℕ) × (length s ≤ 1020) × (found ≡ scanned (scanOf s (e .index)))) × (span < 2 ^ 32) ⌝ }
-    ensures { λ r. ⌜ ((s : List ℕ) → found ≡ scanned (scanOf s (e .index)) → r ≡ wayRead span e (codesAt s (e .index))) × (wayEnd r < 2 ^ 33) ⌝ }
+    ensures { λ r. ⌜ ((s : List ℕ) → found ≡ scanned (scanOf s (e .index)) → r ≡ epilogueRead span e (codesAt s (e .index))) × (epilogueEnd r < 2 ^ 33) ⌝ }
 {
     let index = e.index;
     let start = e.start;
     match found {
         Scanned::Ends(list, end) => {
             let size = bytes_of(list + end);
-            WayOf::Made(Way {
+            EpilogueRead::Made(EpilogueSpan {
                 start: start_of(start, span, size),
                 size: size,
                 condition: e.condition,
                 index: index,
             })
         }
-        Scanned::Refused(r) => WayOf::NoWay(r),
+        Scanned::Refused(r) => EpilogueRead::Unread(r),
     }
 }
 
@@ -116,35 +116,35 @@ fn falls(o: u64, start: u64, end: u64) -> bool
 }
 
 // The first epilogue that the offset falls into.
-fn hit_of(o: u64, hit: Hit, w: Way, end: u64) -> Hit
+fn here_of(o: u64, here: Here, w: EpilogueSpan, end: u64) -> Here
     requires { ⌜ end ≡ w .start + w .size ⌝ }
-    ensures { λ r. ⌜ r ≡ hitOf o hit w ⌝ }
+    ensures { λ r. ⌜ r ≡ hereOf o here w ⌝ }
 {
-    match hit {
-        Hit::In(_) => hit,
-        Hit::Miss => {
+    match here {
+        Here::In(_) => here,
+        Here::Miss => {
             if falls(o, w.start, end) {
-                Hit::In(w)
+                Here::In(w)
             } else {
-                Hit::Miss
+                Here::Miss
             }
         }
     }
 }
 
 // What has been seen with one epilogue more.
-fn see(span: u64, o: u64, s: Seen, w: Way) -> Seen
+fn see(span: u64, o: u64, s: Seen, w: EpilogueSpan) -> Seen
     requires { ⌜ w .start + w .size < 2 ^ 33 ⌝ }
     ensures { λ r. ⌜ r ≡ seeOf span o s w ⌝ }
 {
     let start = w.start;
     let end = start + w.size;
-    let hit = s.hit;
+    let here = s.here;
     Seen {
         floor: start + 1,
         reach: reach_of(s.reach, start, end),
         fits: both(s.fits, in_line(span, s.floor, s.reach, start, end)),
-        hit: hit_of(o, hit, w, end),
+        here: here_of(o, here, w, end),
     }
 }
 
@@ -178,12 +178,12 @@ pub fn look(codes: &[u8], plan: Plan, xdata: &[u8], o: u64, seen: Seen, first: S
         let index = e.index;
         last = rescan(codes, index, at, last);
         at = index;
-        let way = way_of(e, last, span);
-        match way {
-            WayOf::Made(w) => {
+        let read = epilogue_span(e, last, span);
+        match read {
+            EpilogueRead::Made(w) => {
                 s = see(span, o, s, w);
             }
-            WayOf::NoWay(r) => {
+            EpilogueRead::Unread(r) => {
                 return Looked::Bad(r);
             }
         }
@@ -200,7 +200,7 @@ pub fn unseen(span: u64, p: u64) -> Seen
         floor: 0,
         reach: p,
         fits: p <= span,
-        hit: Hit::Miss,
+        here: Here::Miss,
     }
 }
 

@@ -17,13 +17,13 @@ ghost use lib.ListN.{length};
 ghost use Rattle.words.specs.Units.{codeBytes};
 ghost use Rattle.reader.specs.as_coded.Skip.{skipAt};
 ghost use Rattle.record.specs.as_coded.Plan.{scopesFrom, fullPlan, fullAnswer, packedPlan, packedAnswer};
-ghost use Rattle.place.specs.as_coded.Look.{bySkip, inHit, inSeen, spotOf, noSpot as noSpotOf};
+ghost use Rattle.place.specs.as_coded.Look.{bySkip, inHere, inSeen, spotOf, noSpot as noSpotOf};
 ghost use Rattle.words.specs.Lent.{lent};
 ghost use Rattle.words.specs.Answer.{verdict};
 ghost use Rattle.place.specs.Judged.{fullView, packedView, viewAt};
 ghost use Rattle.place.specs.as_coded.Placed.{refusedOf, inPlan, fullPlaced, packedPlaced};
 // An epilogue as its codes make it: it takes the bytes from start up to start + size.
-pub struct Way {
+pub struct EpilogueSpan {
     pub start: u64,
     pub size: u64,
     pub condition: u32,
@@ -31,15 +31,15 @@ pub struct Way {
 }
 
 // The epilogue of a scope, or 6.
-pub enum WayOf {
-    Made(Way),
-    NoWay(Refusal),
+pub enum EpilogueRead {
+    Made(EpilogueSpan),
+    Unread(Refusal),
 }
 
 // The epilogue that an offset falls into, if any.
-pub enum Hit {
+pub enum Here {
     Miss,
-    In(Way),
+    In(EpilogueSpan),
 }
 
 // Of the epilogues seen so far: below which offset no later one may start, where the last that is not empty ends, whether 7 is not given,
@@ -48,7 +48,7 @@ pub struct Seen {
     pub floor: u64,
     pub reach: u64,
     pub fits: bool,
-    pub hit: Hit,
+    pub here: Here,
 }
 
 // What a pass over the epilogues came to.
@@ -118,8 +118,8 @@ fn in_prologue(codes: &[u8], k: u64) -> Spot
 }
 
 // In an epilogue: skips the codes whose instructions have run (RULES 5.9); 9 before 10.
-fn in_epilogue(codes: &[u8], o: u64, w: Way) -> Spot
-    ensures { λ r. ⌜ r ≡ inHit (now (codes .entry)) o (Hit.In w) ⌝ }
+fn in_epilogue(codes: &[u8], o: u64, w: EpilogueSpan) -> Spot
+    ensures { λ r. ⌜ r ≡ inHere (now (codes .entry)) o (Here.In w) ⌝ }
 {
     match reader::skip(codes, w.index, past(o, w.start)) {
         Skipped::At(index) => {
@@ -138,12 +138,12 @@ fn in_epilogue(codes: &[u8], o: u64, w: Way) -> Spot
 }
 
 // In the body or in an epilogue.
-fn in_hit(codes: &[u8], o: u64, hit: Hit) -> Spot
-    ensures { λ r. ⌜ r ≡ inHit (now (codes .entry)) o hit ⌝ }
+fn in_here(codes: &[u8], o: u64, here: Here) -> Spot
+    ensures { λ r. ⌜ r ≡ inHere (now (codes .entry)) o here ⌝ }
 {
-    match hit {
-        Hit::In(w) => in_epilogue(codes, o, w),
-        Hit::Miss => Spot {
+    match here {
+        Here::In(w) => in_epilogue(codes, o, w),
+        Here::Miss => Spot {
             verdict: Verdict::Given,
             place: Place::Body,
             index: CodeBytes(0),
@@ -158,12 +158,12 @@ fn in_seen(codes: &[u8], p: u64, o: u64, looked: Looked) -> Spot
     match looked {
         Looked::Bad(r) => no_spot(r),
         Looked::All(seen) => {
-            let hit = seen.hit;
+            let here = seen.here;
             if seen.fits {
                 if o < p {
                     return in_prologue(codes, p - o);
                 }
-                return in_hit(codes, o, hit);
+                return in_here(codes, o, here);
             }
             no_spot(Refusal::BadLayout)
         }

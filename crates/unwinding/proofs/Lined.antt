@@ -10,7 +10,7 @@ use native.Mathlib.Omega.{arith}
 use borrow.Author.Tests.{leb-true, leb-false}
 use Rattle.words.specs.Answer.{if_then_else_}
 use Rattle.words.proofs.Tests.{T-both as both, T-and as and, T-same as same}
-use Rattle.unwinding.specs.View.{Exit, Stretch, stretch, shared, inside, apart, allApart, ascending, fits}
+use Rattle.unwinding.specs.View.{EpilogueOf, Stretch, stretch, shared, inside, apart, allApart, ascending, fits}
 
 abbrev empty : Stretch → Bool
 empty a = leb (a .to) (a .from)
@@ -146,12 +146,12 @@ lined-of span f r (a ∷ rest) p =
         (and (leb f (a .from) && leb (a .to) span) (leb r (a .from)) (and (leb f (a .from)) (leb (a .to) span) (le→leb _ _ (p .above .0)) high) (le→leb _ _ (p .clear .0 h)))
         (ih (a .to) (record { within = ins; above = p .above .1; clear = clear-of a rest h w ap; apart′ = all }))
 
-same-starts : {C : Type 0} (es : List (Exit C)) → map (λ e. e .start) es ≡ map (λ a. a .from) (map stretch es)
+same-starts : {C : Type 0} (es : List (EpilogueOf C)) → map (λ e. e .start) es ≡ map (λ a. a .from) (map stretch es)
 same-starts [] = refl
 same-starts (e ∷ es) = ap (λ l. e .start ∷ l) (same-starts es)
 
 -- what `fits` asks is the prologue's end and one pass
-pub fits-lined : {C : Type 0} (span p : ℕ) (es : List (Exit C)) → fits span p es ≡ (leb p span && lined span 0 p (map stretch es))
+pub fits-lined : {C : Type 0} (span p : ℕ) (es : List (EpilogueOf C)) → fits span p es ≡ (leb p span && lined span 0 p (map stretch es))
 fits-lined span p es = same (fits span p es) (leb p span && lined span 0 p ss) there back
   where
     ss : List Stretch

@@ -8,7 +8,7 @@ use Rattle.words.specs.declared.Place.the-variants.{Prologue, Body, Epilogue}
 use Rattle.words.specs.declared.Refusal.the-variants.{InsideInstruction, Conditional}
 use Rattle.words.specs.Answer.{Res, ok, refuse, _>>=_, _>>_, need, if_then_else_, maybe}
 use Rattle.unwinding.specs.CodeList.{endOf}
-use Rattle.unwinding.specs.View.{Exit, View}
+use Rattle.unwinding.specs.View.{EpilogueOf, View}
 
 pub record Todo (C : Type 0) : Type 0 where
   pub place : Place
@@ -22,19 +22,19 @@ module _ {C : Type 0} (size : C → ℕ) where
 -- `may`: whether an epilogue of a condition may be executing; 10 if not
 module _ {C : Type 0} (size : C → ℕ) (may : (condition : ℕ) → Bool) where
   -- inside an epilogue: 9 before 10 (RULES 9.54)
-  unfoldable pub inExit : Exit C → (offset : ℕ) → Res (Todo C)
-  inExit e o = do
+  unfoldable pub inEpilogue : EpilogueOf C → (offset : ℕ) → Res (Todo C)
+  inEpilogue e o = do
     t ← left size Epilogue (e .codes .endSize) (e .start + e .size - o) (e .codes .list)
     need (may (e .condition)) Conditional
     ok t
 
   -- in the epilogue that the offset falls into, else in the body
-  unfoldable pub inExits : List (Exit C) → (offset : ℕ) → (body : List C) → Res (Todo C)
-  inExits [] o cs = ok (record { place = Body; codes = cs })
-  inExits (e ∷ es) o cs =
-      let further = inExits es o cs in
-      if leb (e .start) o && ltb o (e .start + e .size) then inExit e o else further
+  unfoldable pub inEpilogues : List (EpilogueOf C) → (offset : ℕ) → (body : List C) → Res (Todo C)
+  inEpilogues [] o cs = ok (record { place = Body; codes = cs })
+  inEpilogues (e ∷ es) o cs =
+      let further = inEpilogues es o cs in
+      if leb (e .start) o && ltb o (e .start + e .size) then inEpilogue e o else further
 
   unfoldable pub todo : View C → (offset : ℕ) → Res (Todo C)
   todo v o =
-      if ltb o (v .prologue) then left size Prologue 0 o (v .codes .list) else inExits (v .exits) o (v .codes .list)
+      if ltb o (v .prologue) then left size Prologue 0 o (v .codes .list) else inEpilogues (v .epilogues) o (v .codes .list)

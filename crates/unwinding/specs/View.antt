@@ -12,7 +12,7 @@ use Rattle.unwinding.specs.Shape.{Shape, startOf}
 use Rattle.unwinding.specs.declared.Scope.{Scope}
 
 -- an epilogue with its codes: it takes the bytes from `start` up to `start + size`
-pub record Exit (C : Type 0) : Type 0 where
+pub record EpilogueOf (C : Type 0) : Type 0 where
   pub start : ℕ
   pub size : ℕ
   pub condition : ℕ
@@ -21,14 +21,14 @@ pub record Exit (C : Type 0) : Type 0 where
 pub record View (C : Type 0) : Type 0 where
   pub codes : Codes C
   pub prologue : ℕ
-  pub exits : List (Exit C)
+  pub epilogues : List (EpilogueOf C)
 
 -- the bytes from one offset up to another
 pub record Stretch : Type 0 where
   pub from : ℕ
   pub to : ℕ
 
-abbrev pub stretch : {C : Type 0} → Exit C → Stretch
+abbrev pub stretch : {C : Type 0} → EpilogueOf C → Stretch
 stretch e = record { from = e .start; to = e .start + e .size }
 
 -- an empty stretch shares nothing (RULES 5.5)
@@ -53,18 +53,18 @@ ascending (a ∷ []) = true
 ascending (a ∷ b ∷ rest) = ltb a b && ascending (b ∷ rest)
 
 -- what 7 asks: all inside the function, the starts of the epilogues rising, no two with a byte in common (RULES 5.5, 9.7)
-abbrev pub fits : {C : Type 0} → (span prologue : ℕ) → List (Exit C) → Bool
+abbrev pub fits : {C : Type 0} → (span prologue : ℕ) → List (EpilogueOf C) → Bool
 fits span p es =
     let all : List Stretch = record { from = 0; to = p } ∷ map stretch es in
     inside span all && ascending (map (λ e. e .start) es) && allApart all
 
 -- a machine's codes have sizes, and are read from code bytes at an index, or refused by 6
 module _ {C : Type 0} (size : C → ℕ) (read : List ℕ → CodeBytes → Res (Codes C)) where
-  unfoldable pub exits : Shape → List Scope → Res (List (Exit C))
-  exits s [] = ok []
-  exits s (e ∷ es) = do
+  unfoldable pub epilogues : Shape → List Scope → Res (List (EpilogueOf C))
+  epilogues s [] = ok []
+  epilogues s (e ∷ es) = do
     c ← read (s .codes) (e .index)
-    rest ← exits s es
+    rest ← epilogues s es
     let n = total size (c .list) + c .endSize
     ok (record { start = startOf (e .start) (s .span) n; size = n; condition = e .condition; codes = c } ∷ rest)
 
@@ -72,7 +72,7 @@ module _ {C : Type 0} (size : C → ℕ) (read : List ℕ → CodeBytes → Res 
   unfoldable pub view : Shape → Res (View C)
   view s = do
     c ← read (s .codes) (codeBytes 0)
-    es ← exits s (s .scopes)
+    es ← epilogues s (s .scopes)
     let p = if s .fragment then 0 else total size (c .list)
     need (fits (s .span) p es) BadLayout
-    ok (record { codes = c; prologue = p; exits = es })
+    ok (record { codes = c; prologue = p; epilogues = es })

@@ -4,7 +4,7 @@ use borrow.Author.Tests.{lt-ltb, le-ltb}
 use borrow.Author.Needs.{needs}
 use Rattle.place.proofs.in_seen.Statement.{statement}
 use Rattle.place.proofs.in_seen.Tie as tie
-use Rattle.place.proofs.in_hit.Reads as in-hit-reads
+use Rattle.place.proofs.in_here.Reads as in-here-reads
 use Rattle.place.proofs.in_prologue.Reads as in-prologue-reads
 use Rattle.place.proofs.no_spot.Reads as no-spot-reads
 
@@ -26,11 +26,11 @@ in-prologue-requires c κs = search needs
 returns : tie.Need-returns
 returns c = simp (c .before .before .before .before .looked2 .given .1, c .before .before .if1 .taken, lt-ltb _ _ (c .before .if2 .taken), c .in-prologue .ensures)
 
-in-hit-requires : tie.Need-in-hit-requires
-in-hit-requires c κs = search needs
+in-here-requires : tie.Need-in-here-requires
+in-here-requires c κs = search needs
 
 returns-2 : tie.Need-returns-2
-returns-2 c = simp (c .before .before .before .before .looked2 .given .1, c .before .before .if1 .taken, le-ltb _ _ (c .before .if2 .left), c .in-hit .ensures)
+returns-2 c = simp (c .before .before .before .before .looked2 .given .1, c .before .before .if1 .taken, le-ltb _ _ (c .before .if2 .left), c .in-here .ensures)
 
 no-spot-requires-2 : tie.Need-no-spot-requires-2
 no-spot-requires-2 c κs = search needs
@@ -51,7 +51,7 @@ in-seen-spec =
     sub-in-prologue
     in-prologue-requires
     returns
-    in-hit-requires
+    in-here-requires
     returns-2
     no-spot-requires-2
     returns-3

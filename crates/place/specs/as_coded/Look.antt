@@ -23,53 +23,53 @@ use Rattle.reader.specs.declared.Skipped.the-variants.{At, Nowhere}
 use Rattle.codes.specs.Code.{size, codesAt}
 use Rattle.codes.specs.Condition.{executing}
 use Rattle.reader.specs.as_coded.Skip.{skipAt}
-use Rattle.place.specs.declared.Way.{Way}
-use Rattle.place.specs.declared.WayOf.{WayOf}
-use Rattle.place.specs.declared.WayOf.the-variants.{Made, NoWay}
-use Rattle.place.specs.declared.Hit.{Hit}
-use Rattle.place.specs.declared.Hit.the-variants.{Miss, In}
+use Rattle.place.specs.declared.EpilogueSpan.{EpilogueSpan}
+use Rattle.place.specs.declared.EpilogueRead.{EpilogueRead}
+use Rattle.place.specs.declared.EpilogueRead.the-variants.{Made, Unread}
+use Rattle.place.specs.declared.Here.{Here}
+use Rattle.place.specs.declared.Here.the-variants.{Miss, In}
 use Rattle.place.specs.declared.Seen.{Seen}
 use Rattle.place.specs.declared.Looked.{Looked}
 use Rattle.place.specs.declared.Looked.the-variants.{All, Bad}
 use Rattle.place.specs.declared.Spot.{Spot}
 
 -- an epilogue as its codes make it (RULES 5.4)
-abbrev pub wayOf : (span : ℕ) → Scope → Codes Code → Way
-wayOf span e c =
+abbrev pub epilogueSpan : (span : ℕ) → Scope → Codes Code → EpilogueSpan
+epilogueSpan span e c =
     let n : ℕ = total size (c .list) + c .endSize in
     record { start = startOf (e .start) span n; size = n; condition = e .condition; index = e .index }
 
-abbrev pub wayRead : (span : ℕ) → Scope → Res (Codes Code) → WayOf
-wayRead span e r = either r NoWay (λ c. Made (wayOf span e c))
+abbrev pub epilogueRead : (span : ℕ) → Scope → Res (Codes Code) → EpilogueRead
+epilogueRead span e r = either r Unread (λ c. Made (epilogueSpan span e c))
 
 -- where it ends
-abbrev pub wayEnd : WayOf → ℕ
-wayEnd (Made w) = w .start + w .size
-wayEnd (NoWay r) = 0
+abbrev pub epilogueEnd : EpilogueRead → ℕ
+epilogueEnd (Made w) = w .start + w .size
+epilogueEnd (Unread r) = 0
 
 -- it stands in line (RULES 5.5): not before `floor`, inside the function, and, unless it is empty, not before `reach`
-abbrev pub inLine : (span floor reach : ℕ) → Way → Bool
+abbrev pub inLine : (span floor reach : ℕ) → EpilogueSpan → Bool
 inLine span f r w = leb f (w .start) && leb (w .start + w .size) span && (leb (w .start + w .size) (w .start) || leb r (w .start))
 
 -- the first epilogue that the offset falls into
-abbrev pub hitOf : (offset : ℕ) → Hit → Way → Hit
-hitOf o (In v) w = In v
-hitOf o Miss w = if leb (w .start) o && ltb o (w .start + w .size) then In w else Miss
+abbrev pub hereOf : (offset : ℕ) → Here → EpilogueSpan → Here
+hereOf o (In v) w = In v
+hereOf o Miss w = if leb (w .start) o && ltb o (w .start + w .size) then In w else Miss
 
 -- what has been seen with one epilogue more
-abbrev pub see : (span offset : ℕ) → Seen → Way → Seen
+abbrev pub see : (span offset : ℕ) → Seen → EpilogueSpan → Seen
 see span o s w =
-    record { floor = w .start + 1; reach = if leb (w .start + w .size) (w .start) then s .reach else w .start + w .size; fits = s .fits && inLine span (s .floor) (s .reach) w; hit = hitOf o (s .hit) w }
+    record { floor = w .start + 1; reach = if leb (w .start + w .size) (w .start) then s .reach else w .start + w .size; fits = s .fits && inLine span (s .floor) (s .reach) w; here = hereOf o (s .here) w }
 
 -- before any epilogue: the prologue is what must not be shared
 abbrev pub unseen : (span prologue : ℕ) → Seen
-unseen span p = record { floor = 0; reach = p; fits = leb p span; hit = Miss }
+unseen span p = record { floor = 0; reach = p; fits = leb p span; here = Miss }
 
 -- the epilogues in turn, over these code bytes; 6 stops
 unfoldable pub lookFrom : (codes : List ℕ) → (span offset : ℕ) → Seen → List Scope → Looked
 lookFrom s span o seen [] = All seen
 lookFrom s span o seen (e ∷ es) =
-    either (codesAt s (e .index)) Bad (λ c. lookFrom s span o (see span o seen (wayOf span e c)) es)
+    either (codesAt s (e .index)) Bad (λ c. lookFrom s span o (see span o seen (epilogueSpan span e c)) es)
 
 -- 6 and 7, by what the pass came to
 abbrev pub judged : Looked → Verdict
@@ -97,16 +97,16 @@ ifAlways true (At i) = spot Epilogue i
 ifAlways false (At i) = noSpot Conditional
 ifAlways b Nowhere = noSpot InsideInstruction
 
-abbrev pub inHit : (codes : List ℕ) → (offset : ℕ) → Hit → Spot
-inHit s o Miss = spot Body (codeBytes 0)
-inHit s o (In w) = ifAlways (executing (w .condition)) (skipAt s (w .index) (o - w .start))
+abbrev pub inHere : (codes : List ℕ) → (offset : ℕ) → Here → Spot
+inHere s o Miss = spot Body (codeBytes 0)
+inHere s o (In w) = ifAlways (executing (w .condition)) (skipAt s (w .index) (o - w .start))
 
 -- 7, and then the place (RULES 5.6)
 abbrev pub inSeen : (codes : List ℕ) → (prologue offset : ℕ) → Looked → Spot
 inSeen s p o (Bad r) = noSpot r
 inSeen s p o (All seen) =
     if seen .fits
-    then (if ltb o p then skipped s Prologue (codeBytes 0) (p - o) else inHit s o (seen .hit))
+    then (if ltb o p then skipped s Prologue (codeBytes 0) (p - o) else inHere s o (seen .here))
     else noSpot BadLayout
 
 -- the prologue's size (RULES 5.3)

@@ -18,7 +18,7 @@ use Rattle.place.proofs.layout.count_of.Reads as count-of-reads
 use Rattle.place.proofs.layout.rescan.Reads as rescan-reads
 use Rattle.place.proofs.layout.see.Reads as see-reads
 use Rattle.place.proofs.layout.span_of.Reads as span-of-reads
-use Rattle.place.proofs.layout.way_of.Reads as way-of-reads
+use Rattle.place.proofs.layout.epilogue_span.Reads as epilogue-span-reads
 
 abbrev Inv-loop : tie.InvT-loop
 Inv-loop codes plan xdata o span n s₀ last₀ at₀ k₀ s last at k =
@@ -45,20 +45,20 @@ scope-requires c κs = search needs
 rescan-requires : tie.Need-rescan-requires Inv-loop μ-loop
 rescan-requires c κs = c .before .before .before .loop .inv .2
 
-way-of-requires : tie.Need-way-of-requires Inv-loop μ-loop
-way-of-requires c κs =
+epilogue-span-requires : tie.Need-epilogue-span-requires Inv-loop μ-loop
+epilogue-span-requires c κs =
     let f = c .before .before .before .before .before .before in
     let z = f .before .before .before in
     ((z .args .codes .now, z .pre .0, c .rescan .ensures), f .span-of .ensures .1)
 
-enum-known-way : tie.Need-enum-known-way Inv-loop μ-loop
-enum-known-way c = search needs
+enum-known-read : tie.Need-enum-known-read Inv-loop μ-loop
+enum-known-read c = search needs
 
 see-requires : tie.Need-see-requires Inv-loop μ-loop
-see-requires c κs = rw (c .before .way .given .1) at (c .before .before .before .way-of .ensures .1)
+see-requires c κs = rw (c .before .read .given .1) at (c .before .before .before .epilogue-span .ensures .1)
 
-enum-known-way-2 : tie.Need-enum-known-way-2 Inv-loop μ-loop
-enum-known-way-2 c = search needs
+enum-known-read-2 : tie.Need-enum-known-read-2 Inv-loop μ-loop
+enum-known-read-2 c = search needs
 
 returns : tie.Need-returns Inv-loop μ-loop
 returns c =
@@ -72,7 +72,7 @@ returns c =
     let q = a .plan .scopes in
     let n = h .count-of .result in
     let span = f .span-of .result in
-    turn-bad (a .codes .now) x q span (a .o) (l .loop .s) (l .loop .k) n (b .loop-test .taken) (y .before .before .before .scope .result) (y .before .before .before .scope .ensures) _ (sym (y .way-of .ensures .0 (a .codes .now) (y .before .rescan .ensures)) ∙ c .before .way2 .given .1) ∙ l .loop .inv .1
+    turn-bad (a .codes .now) x q span (a .o) (l .loop .s) (l .loop .k) n (b .loop-test .taken) (y .before .before .before .scope .result) (y .before .before .before .scope .ensures) _ (sym (y .epilogue-span .ensures .0 (a .codes .now) (y .before .rescan .ensures)) ∙ c .before .read2 .given .1) ∙ l .loop .inv .1
     ∙ ap (λ z. lookFrom (a .codes .now) z (a .o) (a .seen) (scopesFrom q x 0 n)) (f .span-of .ensures .0)
     ∙ ap (λ z. lookFrom (a .codes .now) (a .plan .span) (a .o) (a .seen) (scopesFrom q x 0 z)) (h .count-of .ensures .0)
 
@@ -94,7 +94,7 @@ loop-again c =
     let q = a .plan .scopes in
     let n = h .count-of .result in
     let span = f .span-of .result in
-    (omega arith, ap (λ z. lookFrom (a .codes .now) span (a .o) z (scopesFrom q x (l .loop .k + 1) (n - (l .loop .k + 1)))) (c .see .ensures) ∙ turn-made (a .codes .now) x q span (a .o) (l .loop .s) (l .loop .k) n (b .loop-test .taken) (y .before .before .before .scope .result) (y .before .before .before .scope .ensures) _ (sym (y .way-of .ensures .0 (a .codes .now) (y .before .rescan .ensures)) ∙ c .before .before .way .given .1) ∙ l .loop .inv .1, y .before .rescan .ensures)
+    (omega arith, ap (λ z. lookFrom (a .codes .now) span (a .o) z (scopesFrom q x (l .loop .k + 1) (n - (l .loop .k + 1)))) (c .see .ensures) ∙ turn-made (a .codes .now) x q span (a .o) (l .loop .s) (l .loop .k) n (b .loop-test .taken) (y .before .before .before .scope .result) (y .before .before .before .scope .ensures) _ (sym (y .epilogue-span .ensures .0 (a .codes .now) (y .before .rescan .ensures)) ∙ c .before .before .read .given .1) ∙ l .loop .inv .1, y .before .rescan .ensures)
 
 returns-2 : tie.Need-returns-2 Inv-loop μ-loop
 returns-2 c =
@@ -122,10 +122,10 @@ look-spec =
     loop-holds
     scope-requires
     rescan-requires
-    way-of-requires
-    enum-known-way
+    epilogue-span-requires
+    enum-known-read
     see-requires
-    enum-known-way-2
+    enum-known-read-2
     returns
     add-k
     loop-less

@@ -4,7 +4,7 @@ use borrow.Author.Needs.{needs}
 use Rattle.place.proofs.layout.see.Statement.{statement}
 use Rattle.place.proofs.layout.see.Tie as tie
 use Rattle.place.proofs.layout.both.Reads as both-reads
-use Rattle.place.proofs.layout.hit_of.Reads as hit-of-reads
+use Rattle.place.proofs.layout.here_of.Reads as here-of-reads
 use Rattle.place.proofs.layout.in_line.Reads as in-line-reads
 use Rattle.place.proofs.layout.reach_of.Reads as reach-of-reads
 
@@ -23,11 +23,11 @@ in-line-requires c κs = search needs
 both-requires : tie.Need-both-requires
 both-requires c κs = search needs
 
-hit-of-requires : tie.Need-hit-of-requires
-hit-of-requires c κs = search needs
+here-of-requires : tie.Need-here-of-requires
+here-of-requires c κs = search needs
 
 returns : tie.Need-returns
-returns c = simp (c .before .before .before .reach-of .ensures, c .before .both .ensures, c .before .before .in-line .ensures, c .hit-of .ensures)
+returns c = simp (c .before .before .before .reach-of .ensures, c .before .both .ensures, c .before .before .in-line .ensures, c .here-of .ensures)
 
 pub see-spec : {M : Type 1} → statement M
 see-spec =
@@ -38,5 +38,5 @@ see-spec =
     reach-of-requires
     in-line-requires
     both-requires
-    hit-of-requires
+    here-of-requires
     returns)

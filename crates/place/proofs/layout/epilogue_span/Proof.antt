@@ -1,13 +1,13 @@
 -- The pass over the scope's codes gives their size in halfwords, which is small since a record has few code bytes.
 -- Assumes nothing.
-use Rattle.place.specs.declared.WayOf.the-variants.{Made}
+use Rattle.place.specs.declared.EpilogueRead.the-variants.{Made}
 use mathlib.Core.Path.{_≡_, sym, ap, _∙_}
 use native.Mathlib.Omega.{arith}
 use Rattle.reader.proofs.Sizes.{scanned-ends}
-use Rattle.place.proofs.Looking.{way-made, way-bad}
+use Rattle.place.proofs.Looking.{span-made, span-bad}
 use borrow.Author.Needs.{needs}
-use Rattle.place.proofs.layout.way_of.Statement.{statement}
-use Rattle.place.proofs.layout.way_of.Tie as tie
+use Rattle.place.proofs.layout.epilogue_span.Statement.{statement}
+use Rattle.place.proofs.layout.epilogue_span.Tie as tie
 use Rattle.place.proofs.layout.bytes_of.Reads as bytes-of-reads
 use Rattle.place.proofs.layout.start_of.Reads as start-of-reads
 
@@ -43,15 +43,15 @@ returns c =
     let g = d .before .found .given in
     let n = c .before .bytes-of .result in
     let m = scanned-ends (f .0) (a .e .index) _ _ (sym (f .2) ∙ g .1) in
-    (λ s h. ap (λ k. Made (record { start = k; size = n; condition = a .e .condition; index = a .e .index })) (c .start-of .ensures .0) ∙ way-made s (a .span) (a .e) _ _ n (sym h ∙ g .1) (c .before .bytes-of .ensures), omega (arith, c .start-of .ensures .1, c .before .bytes-of .ensures, m .few, f .1))
+    (λ s h. ap (λ k. Made (record { start = k; size = n; condition = a .e .condition; index = a .e .index })) (c .start-of .ensures .0) ∙ span-made s (a .span) (a .e) _ _ n (sym h ∙ g .1) (c .before .bytes-of .ensures), omega (arith, c .start-of .ensures .1, c .before .bytes-of .ensures, m .few, f .1))
 
 returns-2 : tie.Need-returns-2
 returns-2 c =
     let a = c .before .before .before .before .args in
-    (λ s h. way-bad s (a .span) (a .e) _ (sym h ∙ c .before .found2 .given .1), omega arith)
+    (λ s h. span-bad s (a .span) (a .e) _ (sym h ∙ c .before .found2 .given .1), omega arith)
 
-pub way-of-spec : {M : Type 1} → statement M
-way-of-spec =
+pub epilogue-span-spec : {M : Type 1} → statement M
+epilogue-span-spec =
     tie.close
     (tie.spec
     enum-known-found

@@ -1,8 +1,8 @@
 -- An epilogue that was hit stays; else the test is the definition's.
 -- Assumes nothing.
 use borrow.Author.Needs.{needs}
-use Rattle.place.proofs.layout.hit_of.Statement.{statement}
-use Rattle.place.proofs.layout.hit_of.Tie as tie
+use Rattle.place.proofs.layout.here_of.Statement.{statement}
+use Rattle.place.proofs.layout.here_of.Tie as tie
 use Rattle.place.proofs.layout.falls.Reads as falls-reads
 
 enum-told : tie.Need-enum-told
@@ -23,5 +23,5 @@ returns-2 c = simp (c .before .before .enum-told2 .given .1, ← c .before .befo
 returns-3 : tie.Need-returns-3
 returns-3 c = simp (c .before .before .enum-told2 .given .1, ← c .before .before .before .before .pre, ← c .before .falls .ensures, c .if1 .left)
 
-pub hit-of-spec : {M : Type 1} → statement M
-hit-of-spec = tie.close (tie.spec enum-told enum-told-2 falls-requires returns returns-2 returns-3)
+pub here-of-spec : {M : Type 1} → statement M
+here-of-spec = tie.close (tie.spec enum-told enum-told-2 falls-requires returns returns-2 returns-3)
