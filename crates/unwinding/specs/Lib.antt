@@ -5,3 +5,7 @@ pub mod Shape
 pub mod View
 pub mod Todo
 pub mod Listed
+pub mod Trail
+pub mod Extent
+pub mod Singly
+pub mod as_coded
