@@ -9,3 +9,12 @@ pub mod Viewed
 pub mod Places
 pub mod Lined
 pub mod Toy
+pub mod Thirteen
+pub mod Walks
+pub mod Rising
+pub mod Turns
+pub mod Looping
+pub mod Staying
+pub mod TwoWalks
+pub mod Singly
+pub mod OneWalk
