@@ -1,5 +1,4 @@
 pub mod Examples
-pub mod Staying
 pub mod Wider
 pub mod Whole
 pub mod Numbers

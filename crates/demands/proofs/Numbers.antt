@@ -24,6 +24,7 @@ use Rattle.unwinding.specs.CodeList.{total, endOf, run}
 use Rattle.unwinding.specs.Shape.{Shape}
 use Rattle.unwinding.specs.View.{EpilogueOf, View, ascending, fits, epilogues, view}
 use Rattle.unwinding.specs.Todo.{Todo, left, inEpilogue, inEpilogues, todo}
+use Rattle.unwinding.specs.Trail as Trail
 use Rattle.unwinding.specs.declared.Scope.{Scope}
 use Rattle.unwinding.proofs.Scanning.{by-scan}
 use Rattle.codes.specs.Code.{size, scan, codesAt}
@@ -223,7 +224,7 @@ up-any true = up-frame (λ k. k ≤ 13) (λ k h. omega (arith, h)) true (λ g. g
 up-any false = up-frame (λ k. k ≤ 13) (λ k h. omega (arith, h)) false (λ g. refused (λ k. k ≤ 13) NoRecord (omega arith))
 
 pub up-next : (first : Bool) (t : Inputs) (g : Regs) → UpTo 13 (nextFrame first t g)
-unfolding nextFrame
+unfolding Trail.nextFrame
 up-next first t g =
     bound (λ k. k ≤ 13) (frameOf first t g) _ (up-any first t g)
     (λ c. needed (λ k. k ≤ 13) (first || not (eqb (c .regs .sp) (g .sp))) SpSame _ (omega arith) (given (λ k. k ≤ 13) c))

@@ -2,26 +2,25 @@
 -- too, since no byte outside was read.
 -- Assumes nothing.
 use Prim.Native.Nat.{ℕ, zero, suc, _+_, _-_, _*_, _%_, _^_, _≤_, _<_}
-use mathlib.Core.Path.{_≡_, refl, sym, ap, ap₂, _∙_}
-use mathlib.Core.List.{List, [], _∷_, _++_, append-assoc}
+use mathlib.Core.Path.{_≡_, refl, ap, ap₂, _∙_}
+use mathlib.Core.List.{List, _++_}
 use mathlib.Core.Bool.{Bool, true, false, _&&_}
 use mathlib.Core.Option.{Option, none, some}
 use lib.ListN.{length, getD, take, drop, length-append, length-drop, List·getD-append}
-use lib.Seq.{getD-append-add, drop-append-add, drop-append-le, take-append-le, take-append-seam}
+use lib.Seq.{getD-append-add, drop-append-add, drop-append-le, take-append-le}
 use lib.Dec.{leb, ltb, eqb}
 use native.Mathlib.Omega.{arith}
 use borrow.Author.Tests.{leb-true, le-leb}
 use Rattle.words.specs.Bits.{bits, bit, even}
 use Rattle.words.specs.Lent.{Lent, end, holds, wordAt}
 use Rattle.words.specs.Units.{codeWordBytes}
-use Rattle.words.specs.Refusals.{number}
-use Rattle.words.specs.declared.Refusal.{Refusal}
 use Rattle.words.specs.declared.Refusal.the-variants.{BadStack, OutsideXdata, Reserved, UnfitInput}
-use Rattle.words.specs.Answer.{Res, ok, refuse, if_then_else_, maybe}
+use Rattle.words.specs.Answer.{ok, if_then_else_, maybe}
 use Rattle.unwinding.specs.CodeList.{run}
 use Rattle.unwinding.specs.Shape.{Shape}
 use Rattle.unwinding.specs.View.{view}
 use Rattle.unwinding.specs.Todo.{todo}
+use Rattle.unwinding.proofs.Staying.{Stays, stays-bind, stays-need, stays-test, stays-run}
 use Rattle.codes.specs.Code.{size, codesAt}
 use Rattle.codes.specs.Condition.{executing}
 use Rattle.codes.specs.declared.Code.{Code}
@@ -38,12 +37,9 @@ use Rattle.record.specs.Record.{fullOf, fullShape, packedShape, shapeOf}
 use Rattle.xdata.proofs.Heads.{head-small}
 use Rattle.words.proofs.Tests.{both}
 use Rattle.unwinding.specs.declared.Scope.{Scope}
-use Rattle.walking.specs.Walk.{Trail, nextFrame, listed, walkFrom, filled}
-use Rattle.walking.specs.declared.Frame.{Frame}
 use Rattle.walking.specs.declared.Stop.the-variants as Stop
-use Rattle.frame.specs.Frame.{Inputs, Caller, fitStack, uncovered, within, byRecord, frameOf}
-use Rattle.demands.specs.Demand1.{More, Wider, ofExtent}
-use Rattle.demands.proofs.Staying.{Stays, stays-given, stays-bind, stays-need, stays-test, stays-run}
+use Rattle.frame.specs.Frame.{Inputs, fitStack, uncovered, within, byRecord, frameOf}
+use Rattle.demands.specs.Demand1.{More, Wider}
 
 -- bytes that are lent lie between the ends
 pub inside : (l : Lent) (a n : ℕ) → holds l a n ≡ true → (l .base ≤ a) × (a + n ≤ end l)
@@ -223,7 +219,7 @@ module _ (x x′ : Lent) (m : More x x′) where
       go true = stays-full (e .word)
       go false = λ q. refl
 
--- ---- one frame, and the walk's next
+-- ---- one frame
 module _ (t t′ : Inputs) (w : Wider t t′) (first : Bool) where
   stays-covered : (b : Bool) (s : Shape) (o : ℕ) (g : Regs) → Stays (if b then within (t .stack) s o g else uncovered first g) (if b then within (t′ .stack) s o g else uncovered first g)
   stays-covered true s o g = stays-within (t .stack) (t′ .stack) (w .stack) s o g
@@ -247,63 +243,3 @@ module _ (t t′ : Inputs) (w : Wider t t′) (first : Bool) where
       (λ q. stays-bind (find (t .image) (t .pdata) (g .pc)) (find (t′ .image) (t′ .pdata) (g .pc)) _ _ (λ e. rw (w .image, w .pdata) refl)
       (λ e p. stays-need (stands (t .stack) (g .sp)) (stands (t′ .stack) (g .sp)) BadStack _ _ refl (more-stands (t .stack) (t′ .stack) (w .stack) (g .sp))
       (λ r. stays-found e g)))
-
-  pub stays-next : (g : Regs) → Stays (nextFrame first t g) (nextFrame first t′ g)
-  unfolding nextFrame
-  stays-next g = stays-bind (frameOf first t g) (frameOf first t′ g) _ _ (stays-frame g) (λ c p e. refl)
-
-  pub given-next : (g : Regs) (c : Caller) → nextFrame first t g ≡ ok c → nextFrame first t′ g ≡ ok c
-  given-next g c e = stays-given (nextFrame first t g) (nextFrame first t′ g) c (stays-next g) e
-
--- a list begins with another
-pub record Begins (xs ys : List Frame) : Type 0 where
-  pub rest : List Frame
-  pub whole : ys ≡ xs ++ rest
-
--- and so what two walks leave in lent lists, as far as the first went
-pub begins-alike : (l l′ : List Frame) (w w′ : Trail) → Begins (w .frames) (w′ .frames) → take (length (w .frames)) (filled l w) ≡ take (length (w .frames)) (filled l′ w′)
-begins-alike l l′ w w′ b =
-    let n : ℕ = length (w .frames) in
-    let tail : List Frame = drop (length (w′ .frames)) l′ in
-    take-append-seam (w .frames) (drop n l) ∙ sym (take-append-seam (w .frames) (b .rest ++ tail)) ∙ ap (take n) (sym (append-assoc (w .frames) (b .rest) tail))
-    ∙ ap (λ (fs : List Frame). take n (fs ++ tail)) (sym (b .whole))
-
--- ---- the walk that is not refused by how much is lent
-abbrev Elsewhere : Trail → Type 0
-Elsewhere w = (r : Refusal) (pc : ℕ) → w .stop ≡ Stop.Refused r pc → ofExtent (number r) ≡ false
-
-pub stays-walk : (t t′ : Inputs) → Wider t t′ → (n : ℕ) (first : Bool) (g : Regs) → Elsewhere (walkFrom t n first g) → walkFrom t′ n first g ≡ walkFrom t n first g
-unfolding walkFrom
-stays-walk t t′ w zero first g h = refl
-stays-walk t t′ w (suc n) first g h = go (λ c. stays-walk t t′ w n false (c .regs)) (nextFrame first t g) refl
-  where
-    Same : (n : ℕ) → (first : Bool) → Regs → Type 0
-    Same n first g = walkFrom t′ n first g ≡ walkFrom t n first g
-
-    last : ((c : Caller) → Elsewhere (walkFrom t n false (c .regs)) → Same n false (c .regs)) → (c : Caller) → nextFrame first t g ≡ ok c → (b : Bool) → eqb (c .regs .pc) 0 ≡ b → Same (suc n) first g
-    last below c e true q = rw (given-next t t′ w first g c e, e, q) refl
-    last below c e false q =
-        let more = below c (λ r pc z. h r pc (rw (e, q) z)) in
-        rw (given-next t t′ w first g c e, e, q) (ap (listed g c) more)
-
-    go : ((c : Caller) → Elsewhere (walkFrom t n false (c .regs)) → Same n false (c .regs)) → (r : Res Caller) → nextFrame first t g ≡ r → Same (suc n) first g
-    go below (refuse r) e =
-        let q : nextFrame first t′ g ≡ nextFrame first t g = stays-next t t′ w first g (rw e (h r (even (g .pc)) (rw e refl))) in
-        rw (q, e) refl
-    go below (ok c) e = last below c e (eqb (c .regs .pc) 0) refl
-
--- ---- the frames that any walk lists: those before it stops come first in the wider one
-pub stays-listed : (t t′ : Inputs) → Wider t t′ → (n : ℕ) (first : Bool) (g : Regs) → Begins (walkFrom t n first g .frames) (walkFrom t′ n first g .frames)
-unfolding walkFrom
-stays-listed t t′ w zero first g = record { rest = []; whole = refl }
-stays-listed t t′ w (suc n) first g = go (λ c. stays-listed t t′ w n false (c .regs)) (nextFrame first t g) refl
-  where
-    last : ((c : Caller) → Begins (walkFrom t n false (c .regs) .frames) (walkFrom t′ n false (c .regs) .frames)) → (c : Caller) → nextFrame first t g ≡ ok c → (b : Bool) → eqb (c .regs .pc) 0 ≡ b → Begins (walkFrom t (suc n) first g .frames) (walkFrom t′ (suc n) first g .frames)
-    last below c e true q = rw (given-next t t′ w first g c e, e, q) (record { rest = []; whole = refl })
-    last below c e false q =
-        rw (given-next t t′ w first g c e, e, q)
-        (record { rest = below c .rest; whole = ap (λ fs. record { pc = even (g .pc); sp = g .sp; place = c .place } ∷ fs) (below c .whole) })
-
-    go : ((c : Caller) → Begins (walkFrom t n false (c .regs) .frames) (walkFrom t′ n false (c .regs) .frames)) → (r : Res Caller) → nextFrame first t g ≡ r → Begins (walkFrom t (suc n) first g .frames) (walkFrom t′ (suc n) first g .frames)
-    go below (refuse r) e = rw e (record { rest = walkFrom t′ (suc n) first g .frames; whole = refl })
-    go below (ok c) e = last below c e (eqb (c .regs .pc) 0) refl

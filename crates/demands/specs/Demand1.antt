@@ -4,24 +4,25 @@ use Prim.Native.Nat.{ℕ, _+_, _≤_}
 use mathlib.Core.Path.{_≡_}
 use mathlib.Core.Logic.{_≢_, _⊎_}
 use mathlib.Core.List.{List, [], _++_}
-use mathlib.Core.Bool.{Bool, true, false, _&&_, _||_}
-use lib.ListN.{length, take, drop, replicate}
-use lib.Dec.{eqb}
+use mathlib.Core.Bool.{true, false, _&&_}
+use lib.ListN.{length, replicate}
 use Rattle.words.specs.Lent.{Lent}
 use Rattle.words.specs.Refusals.{number, verdictNumber}
 use Rattle.words.specs.declared.Refusal.{Refusal}
 use Rattle.words.specs.declared.Verdict.the-variants as Verdict
 use Rattle.words.specs.Answer.{refuse}
+use Rattle.unwinding.specs.Extent.{ofExtent}
+use Rattle.unwinding.specs.Singly.{Untouched, Agree}
 use Rattle.machine.specs.declared.Regs.{Regs}
 use Rattle.xdata.specs.Xdata.{fitXdata}
 use Rattle.pdata.specs.declared.Found.the-variants as Found
 use Rattle.packed.specs.declared.Packed.{Packed}
 use Rattle.frame.specs.Frame.{Inputs, fitStack, unwound}
+use Rattle.walking.specs.Walk.{arm}
 use Rattle.walking.specs.declared.Frame.{Frame}
 use Rattle.walking.specs.declared.Stop.the-variants as Stop
-use Rattle.walking.specs.declared.WalkedAll.{WalkedAll}
 use Rattle.text.specs.Text.{text}
-use Rattle.demands.specs.Reader.{Reader}
+use Rattle.demands.specs.Reader.{Reader, seen}
 
 -- the same bytes at the same addresses, with more lent before and after them
 pub record More (l l′ : Lent) : Type 0 where
@@ -37,20 +38,6 @@ pub record Wider (t t′ : Inputs) : Type 0 where
   pub xdata : More (t .xdata) (t′ .xdata)
   pub stack : More (t .stack) (t′ .stack)
   pub fit : (fitStack (t′ .stack) && fitXdata (t′ .xdata)) ≡ true
-
--- the records of a lent list that a walk has not filled are as they were
-pub record Untouched (lent : List Frame) (w : WalkedAll) : Type 0 where
-  pub room : w .walked .frames ≤ length lent
-  pub long : length (w .list) ≡ length lent
-  pub rest : drop (w .walked .frames) (w .list) ≡ drop (w .walked .frames) lent
-
--- two walks list the same first n frames
-abbrev pub Agree : (n : ℕ) → WalkedAll → WalkedAll → Type 0
-Agree n w w′ = (n ≤ w′ .walked .frames) × (take n (w′ .list) ≡ take n (w .list))
-
--- the refusals that are about how much is lent: 1, 5 and 8. An answer that is given has number 0
-abbrev pub ofExtent : ℕ → Bool
-ofExtent n = eqb n 1 || eqb n 5 || eqb n 8
 
 -- both programs print of a file what refusal 14 prints
 abbrev pub Unfit : Reader → (file : List ℕ) → Type 0
@@ -68,13 +55,13 @@ pub record Demand1 (a : Reader) : Type 0 where
   -- a refused frame is the registers as they came, place leaf and zeros (RULES 6.7)
   pub given-back : (t : Inputs) (g : Regs) (r : Refusal) → a .unwind t g .verdict ≡ Verdict.Refused r → a .unwind t g ≡ unwound g (refuse r)
   -- records that a walk does not fill stay as lent, however it stops (RULES 7.2)
-  pub untouched : (t : Inputs) (g : Regs) (l : List Frame) → Untouched l (a .walk t g l)
+  pub untouched : (t : Inputs) (g : Regs) (l : List Frame) → Untouched arm l (seen (a .walk t g l))
   -- only lent bytes are read, and a missing one does not count as 0 (RULES 1.8): an answer, given or refused by anything but how much is
   -- lent, does not change with what lies beyond
   pub frame-stays : (t t′ : Inputs) (g : Regs) → Wider t t′ → ofExtent (verdictNumber (a .unwind t g .verdict)) ≡ false → a .unwind t′ g ≡ a .unwind t g
   pub walk-stays : (t t′ : Inputs) (g : Regs) (l : List Frame) → Wider t t′ → ((r : Refusal) (pc : ℕ) → a .walk t g l .walked .stop ≡ Stop.Refused r pc → ofExtent (number r) ≡ false) → a .walk t′ g l ≡ a .walk t g l
   -- so too for the frames that a walk lists before it is refused, by any number
-  pub listed-stay : (t t′ : Inputs) (g : Regs) (l : List Frame) → Wider t t′ → Agree (a .walk t g l .walked .frames) (a .walk t g l) (a .walk t′ g l)
+  pub listed-stay : (t t′ : Inputs) (g : Regs) (l : List Frame) → Wider t t′ → Agree arm (a .walk t g l .walked .frames) (seen (a .walk t g l)) (seen (a .walk t′ g l))
   pub size-stays : (x x′ : Lent) (at : ℕ) → More x x′ → fitXdata x′ ≡ true → ofExtent (verdictNumber (a .size x at .verdict)) ≡ false → a .size x′ at ≡ a .size x at
   -- a report ends with its parts (RULES 8.2): cut short, or with more bytes, it is none
   pub whole-file : (file more : List ℕ) → more ≢ [] → Unfit a file ⊎ Unfit a (file ++ more)

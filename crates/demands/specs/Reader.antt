@@ -3,6 +3,7 @@ use Prim.Native.Nat.{ℕ}
 use mathlib.Core.List.{List}
 use lib.ListN.{length}
 use Rattle.words.specs.Lent.{Lent}
+use Rattle.unwinding.specs.Singly as Singly
 use Rattle.machine.specs.declared.Regs.{Regs}
 use Rattle.pdata.specs.Pdata.{find, found}
 use Rattle.xdata.specs.Xdata.{xdataSize, sizeAnswer}
@@ -16,6 +17,7 @@ use Rattle.packed_codes.specs.declared.CodesOf.{CodesOf}
 use Rattle.frame.specs.Frame.{Inputs, frame, unwound}
 use Rattle.frame.specs.declared.Unwound.{Unwound}
 use Rattle.walking.specs.Walk as Walking
+use Rattle.walking.specs.Walk.{arm}
 use Rattle.walking.specs.declared.Frame.{Frame}
 use Rattle.walking.specs.declared.WalkedAll.{WalkedAll}
 use Rattle.listing.specs.Listing.{listing}
@@ -31,6 +33,13 @@ pub record Reader : Type 0 where
   pub codes : (word : ℕ) → CodesOf
   pub list : (file : List ℕ) → List ℕ
   pub show : (file : List ℕ) → List ℕ
+
+-- a frame's answer and a walk's, as what is asked of any machine's reader looks at them
+abbrev pub alone : Unwound → Singly.Alone arm
+alone u = record { verdict = u .verdict; to = u .regs; place = u .place; codes = u .codes }
+
+abbrev pub seen : WalkedAll → Singly.WalkedAll arm
+seen w = record { walked = record { stop = w .walked .stop; frames = w .walked .frames; codes = w .walked .codes }; list = w .list }
 
 -- ours: the definitions, which the code meets by its contracts (proofs/Contracts.antt)
 abbrev pub ours : Reader

@@ -9,9 +9,10 @@ use lib.Seq.{take-append-seam, length-take-le}
 use native.Mathlib.Omega.{arith}
 use Rattle.words.specs.declared.Refusal.{Refusal}
 use Rattle.words.specs.Answer.{ok, refuse}
+use Rattle.unwinding.proofs.Walks.{walk-room}
 use Rattle.machine.specs.declared.Regs.{Regs}
 use Rattle.frame.specs.Frame.{Inputs}
-use Rattle.walking.specs.Walk.{Trail, walk, walkedAll}
+use Rattle.walking.specs.Walk.{arm, frames, Trail, walk, walkedAll}
 use Rattle.walking.specs.declared.Frame.{Frame}
 use Rattle.walking.specs.declared.WalkedAll.{WalkedAll}
 use Rattle.report.specs.Report.{Report, report}
@@ -19,7 +20,6 @@ use Rattle.text.specs.Text.{text}
 use Rattle.listing.specs.Listing.{refusedText, frameLines, lastOf, trailOf, printed, listing}
 use Rattle.text.specs.Overlay.{overlay, Laid}
 use Rattle.text.proofs.Overlaid.{from-start}
-use Rattle.listing.proofs.Room.{walk-room}
 use Rattle.listing.proofs.Sizes.{listing-fits}
 
 -- an answer whose frames the list holds prints what it says
@@ -38,7 +38,7 @@ pub answer-fits : (lent : List Frame) (t : Inputs) (g : Regs) {a : WalkedAll} �
 answer-fits lent t g e =
     let fs = walk t 256 g .frames in
     let h : length fs ≤ length (fs ++ drop (length fs) lent) = omega (arith, length-append fs (drop (length fs) lent)) in
-    subst (λ x. (x .walked .frames ≤ 256) × (x .walked .frames ≤ length (x .list))) (sym e) (walk-room t 256 true g, h)
+    subst (λ x. (x .walked .frames ≤ 256) × (x .walked .frames ≤ length (x .list))) (sym e) (walk-room arm (frames t) 256 true g, h)
 
 -- the listing of a report that was read, and of one that was refused
 pub listing-given : (s : List ℕ) {p : Report} → report s ≡ ok p → printed (walk (p .inputs) 256 (p .regs)) ≡ listing s

@@ -10,7 +10,8 @@ use Rattle.words.specs.declared.Refusal.{Refusal}
 use Rattle.words.specs.declared.Place.{Place}
 use Rattle.words.specs.declared.Place.the-variants.{Leaf, Prologue, Body, Epilogue}
 use Rattle.words.specs.Answer.{Res, ok, refuse, either}
-use Rattle.walking.specs.Walk.{Trail, walk}
+use Rattle.unwinding.proofs.Walks.{walk-room}
+use Rattle.walking.specs.Walk.{arm, frames, Trail, walk}
 use Rattle.walking.specs.declared.Frame.{Frame}
 use Rattle.walking.specs.declared.Stop.{Stop}
 use Rattle.walking.specs.declared.Stop.the-variants.{End, Full, Refused}
@@ -18,7 +19,6 @@ use Rattle.report.specs.Report.{Report, report}
 use Rattle.listing.specs.Listing.{placeName, refusedText, stopText, frameLine, frameLines, lastLine, printed, listing}
 use Rattle.text.specs.Text.{text}
 use Rattle.text.proofs.Numbers.{decimal-limit, decimal-small, hex8-length}
-use Rattle.listing.proofs.Room.{walk-room}
 
 -- its pieces
 pub place-length : (p : Place) → length (text (placeName p)) ≤ 8
@@ -62,5 +62,5 @@ unfolding listing
 listing-fits s = go (report s)
   where
     go : (r : Res Report) → length (either r (λ x. refusedText x ++ text "\n") (λ p. printed (walk (p .inputs) 256 (p .regs)))) ≤ 8192
-    go (ok p) = printed-length (walk (p .inputs) 256 (p .regs)) (walk-room (p .inputs) 256 true (p .regs))
+    go (ok p) = printed-length (walk (p .inputs) 256 (p .regs)) (walk-room arm (frames (p .inputs)) 256 true (p .regs))
     go (refuse r) = simp length-append (omega (arith, refused-length r))

@@ -1,7 +1,6 @@
 pub mod Opened
 pub mod Next
 pub mod Turns
-pub mod Trails
 pub mod Loop
 pub mod Again
 pub mod Lending

@@ -3,16 +3,15 @@
 use Prim.Native.Nat.{ℕ}
 use mathlib.Core.Path.{_≡_, refl}
 use mathlib.Core.List.{List, [], _∷_}
-use lib.ListN.{replicate, length}
+use lib.ListN.{replicate}
 use Rattle.words.specs.declared.Place.{Place}
-use Rattle.words.specs.declared.Place.the-variants.{Leaf, Prologue, Body}
-use Rattle.words.specs.declared.Refusal.the-variants.{UnfitInput, BadStack, SpFell, NoRecord, SpSame}
+use Rattle.words.specs.declared.Place.the-variants.{Leaf, Body}
+use Rattle.words.specs.declared.Refusal.the-variants.{NoRecord, SpSame}
 use Rattle.machine.specs.declared.Regs.{Regs}
 use Rattle.frame.specs.Frame.{Inputs}
 use Rattle.walking.specs.declared.Frame.{Frame}
-use Rattle.walking.specs.declared.Stop.{Stop}
 use Rattle.walking.specs.declared.Stop.the-variants.{End, Full, Refused}
-use Rattle.walking.specs.Walk.{Trail, walk, filled}
+use Rattle.walking.specs.Walk.{walk, filled}
 use Rattle.words.proofs.Bytes.{bytesOf}
 use Rattle.walking.proofs.Opened.{opened}
 

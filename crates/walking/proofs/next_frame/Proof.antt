@@ -31,8 +31,9 @@ returns-3 c =
 
 returns-4 : tie.Need-returns-4
 returns-4 c =
-    let framed = c .before .before .before .before .before .before in
-    other-stays _ _ _ _ (framed .frame-of .ensures (framed .before .before .before .before .pre)) (ne-eqb _ _ (c .if2 .left))
+    let told = c .before .before .before in
+    let framed = told .before .before .before in
+    other-stays _ _ _ _ (framed .frame-of .ensures (framed .before .before .before .before .pre)) (told .before .before .if1 .left) (ne-eqb _ _ (c .if2 .left))
 
 pub next-frame-spec : {M : Type 1} → statement M
 next-frame-spec =

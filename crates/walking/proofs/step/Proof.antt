@@ -3,7 +3,9 @@
 use native.Mathlib.Omega.{arith}
 use mathlib.Core.Path.{_∙_}
 use borrow.Author.Needs.{needs}
-use Rattle.walking.proofs.Turns.{end-turn, full-turn, refused-turn, gone-turn, answer-codes}
+use Rattle.unwinding.proofs.Turns.{at-end, at-full, at-refusal, goes}
+use Rattle.walking.proofs.Next.{refused-is, given-is}
+use Rattle.walking.proofs.Turns.{as-turn, answer-codes}
 use Rattle.walking.proofs.step.Statement.{statement}
 use Rattle.walking.proofs.step.Tie as tie
 
@@ -11,7 +13,7 @@ halt-requires : tie.Need-halt-requires
 halt-requires c κs = search needs
 
 returns : tie.Need-returns
-returns c = c .halt .ensures ∙ end-turn _ _ _ (c .before .if1 .taken)
+returns c = c .halt .ensures ∙ as-turn _ _ _ (at-end (c .before .if1 .taken))
 
 halt-requires-2 : tie.Need-halt-requires-2
 halt-requires-2 c κs = search needs
@@ -19,7 +21,7 @@ halt-requires-2 c κs = search needs
 returns-2 : tie.Need-returns-2
 returns-2 c =
     let a = c .before .before .before .before .before .before .args in
-    c .halt2 .ensures ∙ full-turn _ (a .room) (a .s) (c .before .before .if1 .left) (omega (arith, c .before .if2 .taken))
+    c .halt2 .ensures ∙ as-turn _ (a .room) (a .s) (at-full (c .before .before .if1 .left) (omega (arith, c .before .if2 .taken)))
 
 next-frame-requires : tie.Need-next-frame-requires
 next-frame-requires c κs = search needs
@@ -47,13 +49,13 @@ returns-3 c =
     let framed = c .before .before .before .before .before in
     let tested = framed .before .before .before in
     c .halt3 .ensures
-    ∙ rw (c .before .even .ensures) (refused-turn _ _ _ _ _ (tested .before .if1 .left) (tested .if2 .left) (framed .next-frame .ensures) (c .before .before .before .v .given .1))
+    ∙ rw (c .before .even .ensures) (as-turn _ _ _ (at-refusal _ (tested .before .if1 .left) (tested .if2 .left) (refused-is _ _ _ _ (framed .next-frame .ensures) (c .before .before .before .v .given .1))))
 
 returns-4 : tie.Need-returns-4
 returns-4 c =
     let framed = c .before .before .before in
     let tested = framed .before .before .before in
-    c .advance .ensures ∙ gone-turn _ _ _ _ (tested .before .if1 .left) (tested .if2 .left) (framed .next-frame .ensures) (c .before .enum-told .given .1)
+    c .advance .ensures ∙ as-turn _ _ _ (goes _ (tested .before .if1 .left) (tested .if2 .left) (given-is _ _ _ (framed .next-frame .ensures) (c .before .enum-told .given .1)))
 
 pub step-spec : {M : Type 1} → statement M
 step-spec =

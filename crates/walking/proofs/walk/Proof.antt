@@ -65,7 +65,8 @@ use Rattle.walking.proofs.Walked.Laws as Z′
 use Rattle.walking.proofs.Lending as Lending
 use Rattle.walking.proofs.Lending.{Lending, Fit, gv, inputsOf, unplaced}
 use Rattle.walking.proofs.Again.{LentAgain, lends-again, comes-back}
-use Rattle.walking.proofs.Loop.{Midway, less, within, fewer, midway-on, ended, midway-begins}
+use Rattle.unwinding.proofs.Looping.{less}
+use Rattle.walking.proofs.Loop.{Midway, within, fewer, midway-on, ended, midway-begins}
 use Rattle.walking.proofs.begin as begin
 use Rattle.walking.proofs.begin.Symbol as begin-def
 use Rattle.walking.proofs.begin.Symbol.{name as #walking·begin}
@@ -359,7 +360,7 @@ module _ {M : Type 1} (𝓤 : URA M) (H : Heap 𝓤) (A : Atoms 𝓤) (W : Given
             assigns ! (of-opd ! (load ! (from ! (fld ! refl (stop !))) (look-in ! 18 (sub ! 1 refl (whole !))))) (from ! (stop !)) (init ! 12 refl (tt, record { fits = room .0 })) $
             -- the call of `step`: the slices are passed as copies
             move ! (2 ∷ []) $ use1 W (‵ three ⊛ ‵ three) (Lending.twice 𝓤 H A W κp κx κk qp qx qk i) $ split ! $ move ! (4 ∷ 0 ∷ []) $
-            use2 W (raw (StepC 𝓤 H A mem run .pre (to-step n (room .0) (h .s)))) (asks-step n (room .0) (h .s) (h .good) (h .mid .checks) (h .mid .small)) $
+            use2 W (raw (StepC 𝓤 H A mem run .pre (to-step n (room .0) (h .s)))) (asks-step n (room .0) (h .s) (h .good) (h .mid .checks) (h .mid .walk .small)) $
             calls-at ! fm (StepC 𝓤 H A mem run) known (to-step n (room .0) (h .s)) (and-then ! (load ! (from ! (stop !)) (look ! 32 refl)) (and-then ! (load ! (from ! (stop !)) (look ! 30 refl)) (and-then ! (load ! (from ! (stop !)) (look ! 28 refl)) (and-then ! (load ! (from ! (stop !)) (look ! 26 refl)) (and-then ! (load ! (from ! (stop !)) (look ! 24 refl)) (and-then ! (load ! (from ! (stop !)) (look ! 22 refl)) (and-then ! (load ! (from ! (stop !)) (look ! 16 refl)) (and-then ! (load ! (from ! (stop !)) (look ! 12 refl)) (no-more !))))))))) (λ u.
             use1 W (later (some (λ (r : Turn). (toks ⊛ ‵ (T.the-row .own r (u ∷ []))) ⊛ raw (ensured 𝓤 H A step.ended (step.clauses 𝓤 H A mem run) lft3 (step-a n (room .0) (h .s)) tt r)))) (id⊢ 𝓤 _) $ await ! tt $ pick ! (λ r.
             split ! $ move ! (1 ∷ []) $ use1 W (raw (fact 𝓤 (r ≡ turnOf (inputsOf i) n (h .s)))) (step-said n (room .0) (h .s) r) $ heard ! (r ≡ turnOf (inputsOf i) n (h .s)) (λ e. split ! $ move ! (1 ∷ []) $
@@ -374,7 +375,7 @@ module _ {M : Type 1} (𝓤 : URA M) (H : Heap 𝓤) (A : Atoms 𝓤) (W : Given
             assigns ! (agg ! (and-then ! (load ! (from ! (fld ! refl (stop !))) (look-in ! 14 (sub ! 1 refl (whole !)))) (and-then ! (load ! (from ! (fld ! refl (stop !))) (look-in ! 16 (sub ! 3 refl (whole !)))) (and-then ! (load ! (from ! (fld ! refl (stop !))) (look-in ! 16 (sub ! 4 refl (whole !)))) (no-more !))))) (from ! (stop !)) (init ! 34 refl (LL.lawful Z.the-type Z′.the-laws 𝓤 H A W .typed (answer (h .s) r) _ stops .0)) $
             returns-within ! Post refl (look ! 34 refl) $ forget ! 10 refl $ forget ! 12 refl $ forget ! 14 refl $ forget ! 16 refl $ forget ! 18 refl $ forget ! 20 refl $ forget ! 22 refl $ forget ! 24 refl $ forget ! 26 refl $ forget ! 28 refl $ forget ! 30 refl $ forget ! 32 refl $ forget ! 34 refl $
             move ! (34 ∷ 35 ∷ []) $ free1 ! $ move ! (32 ∷ 33 ∷ []) $ free1 ! $ move ! (30 ∷ 31 ∷ []) $ free1 ! $ move ! (28 ∷ 29 ∷ []) $ free1 ! $ move ! (26 ∷ 27 ∷ []) $ free1 ! $ move ! (24 ∷ 25 ∷ []) $ free1 ! $ move ! (22 ∷ 23 ∷ []) $ free1 ! $ move ! (20 ∷ 21 ∷ []) $ free1 ! $ move ! (18 ∷ 19 ∷ []) $ free1 ! $ move ! (16 ∷ 17 ∷ []) $ free1 ! $ move ! (14 ∷ 15 ∷ []) $ free1 ! $ move ! (12 ∷ 13 ∷ []) $ free1 ! $ move ! (10 ∷ 11 ∷ []) $ free1 ! $ move ! (8 ∷ 9 ∷ []) $ free1 ! $ move ! (6 ∷ 7 ∷ []) $ free1 ! $ move ! (4 ∷ 5 ∷ []) $ free1 ! $ free0 ! $
-            by ! (exits (answer (h .s) r) (h .ys) stops (h .mid .long) (ended (h .mid) r e (is-false (r .on) off))))
+            by ! (exits (answer (h .s) r) (h .ys) stops (h .mid .walk .long) (ended (h .mid) r e (is-false (r .on) off))))
             (λ on.
             let go = is-true (r .on) on in
             let parts = LL.owed T.the-type T′.the-laws r _ is in
@@ -383,9 +384,9 @@ module _ {M : Type 1} (𝓤 : URA M) (H : Heap 𝓤) (A : Atoms 𝓤) (W : Given
             assigns ! (addr ! (from ! (fld ! refl (hop ! (look-in ! 18 (sub ! 0 refl (whole !))) (stop !))))) (from ! (stop !)) (init ! 6 refl (tt, tt)) $
             assigns ! (agg ! (and-then ! (load ! (from ! (stop !)) (look ! 6 refl)) (and-then ! (load ! (from ! (fld ! refl (stop !))) (look-in ! 18 (sub ! 1 refl (whole !)))) (no-more !)))) (from ! (stop !)) (init ! 4 refl (tt, (tt, (record { fits = room .0 }, tt)))) $
             -- the list is lent again for a lifetime ν of the call of `put`
-            lft-new ! tt (λ ν. move ! (1 ∷ 2 ∷ []) $ rewrite ! 0 (λ (m : ℕ). ‵ (listOwn κ γ (h .ys) m)) (sym (h .mid .long)) refl $
+            lft-new ! tt (λ ν. move ! (1 ∷ 2 ∷ []) $ rewrite ! 0 (λ (m : ℕ). ‵ (listOwn κ γ (h .ys) m)) (sym (h .mid .walk .long)) refl $
             use2 W (later (some (λ (δ : GName). ‵ (againOwn ν δ (h .ys) (length (h .ys))) ⊛ ‵ (LentAgain F.the-row κ (ν ∷ []) q γ b o δ (h .ys))))) (lends-again F.the-row κ (ν ∷ []) q γ b o 𝓤 H A W (named 3) (named 0) (h .ys)) $ await ! tt $ pick ! (λ δ. split ! $
-            rewrite ! 0 (λ (m : ℕ). ‵ (againOwn ν δ (h .ys) m)) (h .mid .long) refl $ move ! (2 ∷ 0 ∷ []) $ use2 W (raw (PutC 𝓤 H A mem run .pre (to-put ν δ (h .ys) (h .s .frames) (r .frame)))) (asks-put ν δ (h .ys) (h .s .frames) (r .frame) (sparts .1 .1 .1 .0 .1) (parts .1 .1 .0) (within (h .mid) r e go)) $
+            rewrite ! 0 (λ (m : ℕ). ‵ (againOwn ν δ (h .ys) m)) (h .mid .walk .long) refl $ move ! (2 ∷ 0 ∷ []) $ use2 W (raw (PutC 𝓤 H A mem run .pre (to-put ν δ (h .ys) (h .s .frames) (r .frame)))) (asks-put ν δ (h .ys) (h .s .frames) (r .frame) (sparts .1 .1 .1 .0 .1) (parts .1 .1 .0) (within (h .mid) r e go)) $
             calls-at ! fm (PutC 𝓤 H A mem run) known-put (to-put ν δ (h .ys) (h .s .frames) (r .frame)) (and-then ! (load ! (from ! (stop !)) (look ! 4 refl)) (and-then ! (load ! (from ! (fld ! refl (stop !))) (look-in ! 16 (sub ! 3 refl (whole !)))) (and-then ! (load ! (from ! (fld ! refl (stop !))) (look-in ! 14 (sub ! 2 refl (whole !)))) (no-more !)))) (λ w.
             use1 W (later (some (λ (z : Unit {0}). ((‵ (flft (ν ∷ []) fullShare) ⊛ ‵ ftrue) ⊛ ‵ (unit .own z (w ∷ []))) ⊛ raw (ensured 𝓤 H A put.ended (put.clauses 𝓤 H A mem run) (ν ∷ [], tt) (put-a δ (h .ys) (h .s .frames) (r .frame)) tt z)))) (id⊢ 𝓤 _) $ await ! tt $ pick ! (λ z.
             split ! $ move ! (1 ∷ []) $ use1 W (some (λ (zs : List Frame × (Unit {0} × (Unit {0} × Unit {0}))). ‵ (lasts put.ended (ν ∷ [], tt) (put-a δ (h .ys) (h .s .frames) (r .frame)) zs) ⊛ raw (fact 𝓤 (zs .0 ≡ set (h .ys) (h .s .frames) (r .frame))))) (id⊢ 𝓤 _) $ pick ! (λ zs.
@@ -395,8 +396,8 @@ module _ {M : Type 1} (𝓤 : URA M) (H : Heap 𝓤) (A : Atoms 𝓤) (W : Given
             land ! (from ! (stop !)) (init ! 11 refl (nothing-lawful 𝓤 H A W .typed z _ isw .0)) $
             -- the lifetime is ended, and the list comes back at that list
             drop ! $ split ! $ lft-end ! tt $ move ! (0 ∷ 4 ∷ 2 ∷ []) $
-            use3 W (later (‵ (listOwn κ γ (zs .0) (length (h .ys))) ⊛ ‵ (flft κ q))) (comes-back F.the-row κ (ν ∷ []) q γ b o 𝓤 H A W (named 3) (named 0) (h .ys) δ (zs .0) (subst (Room F.the-row) (sym (h .mid .long)) room) l) $ await ! tt $ split ! $
-            move ! (2 ∷ []) $ drop ! $ move ! (2 ∷ []) $ drop ! $ rewrite ! 0 (λ (m : ℕ). ‵ (listOwn κ γ (zs .0) m)) (h .mid .long) refl $ rewrite ! 0 (λ (l′ : List Frame). ‵ (listOwn κ γ l′ n)) e′ refl $
+            use3 W (later (‵ (listOwn κ γ (zs .0) (length (h .ys))) ⊛ ‵ (flft κ q))) (comes-back F.the-row κ (ν ∷ []) q γ b o 𝓤 H A W (named 3) (named 0) (h .ys) δ (zs .0) (subst (Room F.the-row) (sym (h .mid .walk .long)) room) l) $ await ! tt $ split ! $
+            move ! (2 ∷ []) $ drop ! $ move ! (2 ∷ []) $ drop ! $ rewrite ! 0 (λ (m : ℕ). ‵ (listOwn κ γ (zs .0) m)) (h .mid .walk .long) refl $ rewrite ! 0 (λ (l′ : List Frame). ‵ (listOwn κ γ l′ n)) e′ refl $
             assigns-last ! (of-opd ! (load ! (from ! (fld ! refl (stop !))) (look-in ! 14 (sub ! 3 refl (whole !))))) (from ! (stop !)) (store ! 16 refl (LL.lawful S.the-type S′.the-laws 𝓤 H A W .typed (r .next) _ (parts .1 .1 .1 .0) .0)) $
             forget ! 4 refl $ forget ! 6 refl $ forget ! 8 refl $ forget ! 10 refl $ forget ! 12 refl $ forget ! 14 refl $ again ! ≺ I h (onto h r e go (parts .1 .1 .1 .0)) (fewer (h .mid) r e go))))))))))))))
 
