@@ -19,7 +19,8 @@ ghost use Rattle.words.specs.Lent.{lent};
 ghost use Rattle.words.specs.Answer.{Res};
 ghost use Rattle.pdata.specs.declared.Entry.{Entry};
 ghost use Rattle.pdata.specs.Pdata.{found as foundOf};
-ghost use Rattle.frame.specs.Frame.{inputs, fitStack, checked, unwound, afterFind, frameOf, frame};
+ghost use Rattle.frame.specs.Frame.{inputs, fitStack, checked, unwound, afterFind, frame};
+ghost use Rattle.frame.specs.as_coded.FromPlace.{Answers};
 
 // One frame's answer (RULES 6.1). A refusal has the registers as they came, place leaf and zeros (RULES 6.7).
 pub struct Unwound {
@@ -112,7 +113,7 @@ pub fn frame_of(
     stack: &[u8],
     g: Regs,
 ) -> Unwound
-    ensures { λ r. ⌜ (c ≡ checked (inputs image (now (pdata .entry)) rva (now (xdata .entry)) base (now (stack .entry))) → r ≡ unwound g (frameOf first (inputs image (now (pdata .entry)) rva (now (xdata .entry)) base (now (stack .entry))) g)) ⌝ }
+    ensures { λ r. ⌜ Answers first c (inputs image (now (pdata .entry)) rva (now (xdata .entry)) base (now (stack .entry))) g r ⌝ }
 {
     if c.fit {
         let found = pdata::find_in(c, image, pdata, g.pc);

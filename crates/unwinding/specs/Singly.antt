@@ -14,7 +14,7 @@ use Rattle.words.specs.declared.Verdict.the-variants.{Given, Refused}
 use Rattle.words.specs.Answer.{Res, ok, refuse}
 use Rattle.unwinding.specs.Trail.{Walker, Trail, filled}
 
--- a frame by itself: "A refusal returns the given registers, 0 codes, … and place leaf"
+-- a frame by itself; a refused one gives back the state, with 0 codes and place leaf (RULES 6.7)
 pub record Alone (W : Walker) : Type 0 where
   pub verdict : Verdict
   pub to : W .State
@@ -66,8 +66,7 @@ module _ (W : Walker) (unwind : W .State → Alone W) where
   codesRun g zero = 0
   codesRun g (suc k) = unwind g .codes + codesRun (unwind g .to) k
 
-  -- why the frame at g, with n before it, is refused: by itself; 12, "a frame after the first has no covering record"; 13, it "leaves SP
-  -- the same"
+  -- why the frame at g, with n before it, is refused: by itself; a later one by 12, as a leaf, or by 13, if it does not change SP (RULES 7.6)
   pub data Why (g : State) (n : ℕ) : Refusal → Type 0 where
     itself : (r : Refusal) → unwind g .verdict ≡ Refused r → Why g n r
     uncovered : 0 < n → unwind g .verdict ≡ Given → unwind g .place ≡ Leaf → Why g n NoRecord

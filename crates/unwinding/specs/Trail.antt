@@ -1,6 +1,5 @@
--- The walk, over any machine's frame. "It fills a lent list of frame records: pc, SP, place, one per frame that unwound. Before each frame,
--- a full list stops it (also for length 0). A caller's pc 0 ends it (before full). A refusal stops it with number and the frame's pc. The
--- answer adds the frame count and the sum of codes run in those frames. Other records stay as lent."
+-- The walk, over any machine's frame: frame after frame, each listed when it is unwound, up to an end, a full list or a refusal (RULES 7.1
+-- to 7.7).
 use Prim.Native.Nat.{ℕ, zero, suc, _+_}
 use mathlib.Core.List.{List, [], _∷_, _++_}
 use mathlib.Core.Bool.{Bool, true, false, _||_, not}
@@ -54,7 +53,7 @@ module _ (W : Walker) where
   filled lent w = w .frames ++ drop (length (w .frames)) lent
 
   module _ (frameOf : FrameOf W) where
-    -- 13: "a frame after the first leaves SP the same"
+    -- one frame of a walk, which must change SP if it is a later one (13; RULES 7.6)
     unfoldable pub nextFrame : FrameOf W
     nextFrame first g = do
       c ← frameOf first g

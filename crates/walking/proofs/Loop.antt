@@ -15,7 +15,7 @@ use Rattle.walking.specs.declared.Frame.{Frame}
 use Rattle.walking.specs.declared.State.{State}
 use Rattle.walking.specs.declared.Turn.{Turn}
 use Rattle.walking.specs.Walk.{arm, frames, walk, walked, filled}
-use Rattle.walking.specs.Turn.{standing, turning, turnOf, begun}
+use Rattle.walking.specs.as_coded.Turn.{standing, turning, turnOf, begun}
 use Rattle.walking.proofs.Turns.{bounded}
 
 pub record Midway (t : Inputs) (g : Regs) (L : List Frame) (left : ℕ) (s : State) (fs ys : List Frame) : Type 0 where

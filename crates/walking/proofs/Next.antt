@@ -14,7 +14,7 @@ use Rattle.machine.specs.declared.Regs.{Regs}
 use Rattle.frame.specs.declared.Unwound.{Unwound}
 use Rattle.frame.specs.Frame.{Inputs, Caller, frameOf, unwound}
 use Rattle.walking.specs.Walk.{arm, frames, nextFrame}
-use Rattle.walking.specs.Turn.{callerOf}
+use Rattle.walking.specs.as_coded.Turn.{callerOf}
 
 pub refused-is : (g : Regs) (x : Res Caller) (u : Unwound) (r : Refusal) → u ≡ unwound g x → u .verdict ≡ Refused r → x ≡ refuse r
 refused-is g (ok c) u r is v = absurd (let z : _≡_ {A = ℕ} 0 1 = cc in omega arith)

@@ -12,7 +12,7 @@ use Rattle.frame.specs.Frame.{Inputs, unwound}
 use Rattle.frame.proofs.Bounds.{frame-sp, frame-codes}
 use Rattle.walking.specs.declared.State.{State}
 use Rattle.walking.specs.Walk.{arm, frames, nextFrame}
-use Rattle.walking.specs.Turn.{standing, turned, callerOf, turnOf}
+use Rattle.walking.specs.as_coded.Turn.{standing, turned, callerOf, turnOf}
 use Rattle.walking.proofs.Next.{given-is}
 
 pub bounded : (t : Inputs) → Bounded arm (frames t) 1020

@@ -1,5 +1,6 @@
 -- The walk (unwinding/specs/Trail.antt, RULES 7.1 to 7.7) of 32-bit ARM: over `frameOf`, with its registers, frame records and stops.
 use Prim.Native.Nat.{ℕ}
+use mathlib.Core.Path.{_≡_}
 use mathlib.Core.List.{List}
 use mathlib.Core.Bool.{Bool}
 use lib.ListN.{length}
@@ -54,6 +55,10 @@ walked w = record { stop = w .stop; frames = length (w .frames); codes = w .code
 
 abbrev pub filled : List Frame → Trail → List Frame
 filled lent w = Any.filled arm lent w
+
+-- what a walk into a lent list comes to: the answer, and the list
+abbrev pub Walks : Inputs → Regs → (lent left : List Frame) → Walked → Type 0
+Walks t g lent left r = (r ≡ walked (walk t (length lent) g)) × (left ≡ filled lent (walk t (length lent) g))
 
 -- both, for a list that goes in and comes back by value
 abbrev pub walkedAll : List Frame → Trail → WalkedAll

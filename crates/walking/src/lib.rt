@@ -3,8 +3,8 @@ ghost use mathlib.Core.Path.{_≡_};
 ghost use Prim.Native.Nat.{_<_, _≤_};
 ghost use lib.ListN.{length, set};
 ghost use Rattle.frame.specs.Frame.{inputs, checked as checkedOf, unwound};
-ghost use Rattle.walking.specs.Walk.{nextFrame, walk as walkOf, walked as walkedOf, filled, walkedAll};
-ghost use Rattle.walking.specs.Turn.{begun, halted, callerOf, gone, turnOf, Small};
+ghost use Rattle.walking.specs.Walk.{nextFrame, walk as walkOf, Walks, walkedAll};
+ghost use Rattle.walking.specs.as_coded.Turn.{begun, halted, callerOf, gone, turnOf, Small};
 use frame::Unwound;
 use machine::Regs;
 use pdata::Checked;
@@ -202,7 +202,7 @@ pub fn walk(
     g: Regs,
     list: &mut [Frame],
 ) -> Walked
-    ensures { λ r. ⌜ (r ≡ walkedOf (walkOf (inputs image (now (pdata .entry)) rva (now (xdata .entry)) base (now (stack .entry))) (length (now (list .entry))) g)) × (now (list .exit) ≡ filled (now (list .entry)) (walkOf (inputs image (now (pdata .entry)) rva (now (xdata .entry)) base (now (stack .entry))) (length (now (list .entry))) g)) ⌝ }
+    ensures { λ r. ⌜ Walks (inputs image (now (pdata .entry)) rva (now (xdata .entry)) base (now (stack .entry))) g (now (list .entry)) (now (list .exit)) r ⌝ }
 {
     let mut s = begin(pdata, rva, xdata, base, stack, g);
     loop {

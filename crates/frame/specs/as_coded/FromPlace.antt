@@ -1,6 +1,7 @@
 -- The caller from where the pc stands: the codes from an index run, 11, and the answer. That this is `within` is a law (`within-placed` of
 -- proofs/Within.antt). And the caller by a record's shape, full or packed (`by-full`, `by-packed` of proofs/Records.antt).
 use Prim.Native.Nat.{ℕ}
+use mathlib.Core.Path.{_≡_}
 use mathlib.Core.List.{List}
 use mathlib.Core.Bool.{Bool, true, false}
 use lib.ListN.{length}
@@ -17,7 +18,9 @@ use Rattle.codes.specs.Code.{scan}
 use Rattle.machine.specs.declared.Regs.{Regs}
 use Rattle.machine.specs.as_coded.Run.{runAt}
 use Rattle.record.specs.Record.{fullShape, packedShape}
-use Rattle.frame.specs.Frame.{Caller, returned, uncovered, within}
+use Rattle.frame.specs.Frame.{Inputs, Caller, returned, uncovered, within, frameOf, unwound, checked}
+use Rattle.frame.specs.declared.Unwound.{Unwound}
+use Rattle.pdata.specs.declared.Checked.{Checked}
 use Rattle.place.specs.declared.Placed.{Placed}
 
 -- 11, and the caller (RULES 6.3)
@@ -38,6 +41,10 @@ placedFrom first k s handler g p i c (Refused r) = refuse r
 
 abbrev pub fromPlaced : (first : Bool) → (stack : Lent) → (codes : List ℕ) → Regs → Placed → Res Caller
 fromPlaced first k s g p = placedFrom first k s (p .handler) g (p .place) (p .index) (p .covers) (p .verdict)
+
+-- what a frame comes to over tables whose checks were made: those of these inputs
+abbrev pub Answers : (first : Bool) → Checked → Inputs → Regs → Unwound → Type 0
+Answers first c t g r = c ≡ checked t → r ≡ unwound g (frameOf first t g)
 
 -- by a record's shape, at an offset that it covers or not
 abbrev pub inShape : (first : Bool) → (stack : Lent) → (offset : ℕ) → Regs → Shape → Res Caller

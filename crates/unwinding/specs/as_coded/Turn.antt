@@ -46,7 +46,7 @@ module _ (W : Walker) where
     next = record { at = to c; end = eqb (pc (to c)) 0; frames = s .frames + 1; codes = s .codes + W .codes c };
   }
 
-  -- "A caller's pc 0 ends it (before full). Before each frame, a full list stops it. A refusal stops it with number and the frame's pc."
+  -- one turn: at the end (RULES 7.4), else without room (RULES 7.3), else by the next frame, unwound or refused (RULES 7.5)
   unfoldable pub turnOf : FrameOf W → (room : ℕ) → Standing W → Turn W
   turnOf frameOf room s =
       if s .end

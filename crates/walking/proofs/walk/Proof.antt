@@ -53,7 +53,7 @@ use Rattle.walking.specs.declared.State.{State}
 use Rattle.walking.specs.declared.Turn.{Turn}
 use Rattle.walking.specs.declared.Walked.{Walked}
 use Rattle.walking.specs.Walk.{Trail, walk as walkTo, walked as answered, filled}
-use Rattle.walking.specs.Turn.{begun, turnOf, Small}
+use Rattle.walking.specs.as_coded.Turn.{begun, turnOf, Small}
 use Rattle.walking.proofs.Frame as F
 use Rattle.walking.proofs.Frame.Laws as F′
 use Rattle.walking.proofs.State as S
