@@ -1,26 +1,21 @@
 -- Lists of registers: the table's entries are the rule's values, each at once, and every list has at most 13 bits.
 -- Assumes nothing.
 use Prim.Native.Nat.{ℕ, _+_, _-_, _*_, _%_, _^_, _≤_, _<_}
-use mathlib.Core.Path.{_≡_, ap, _∙_}
-use mathlib.Core.List.{[], _∷_}
+use mathlib.Core.Path.{_≡_, refl}
 use mathlib.Core.Bool.{Bool, true, false}
 use lib.ListN.{getD}
 use lib.Pow.{pow-pos}
 use lib.Dec.{eqb}
-use native.Mathlib.Nat.{zero-add}
 use native.Mathlib.Omega.{arith}
 use Rattle.words.specs.Answer.{if_then_else_}
 use Rattle.codes.specs.Table.{range}
-use Rattle.codes.proofs.Entries.{tab, tab-from}
+use Rattle.codes.proofs.Entries.{tab, tab-has}
 use Rattle.codes.proofs.Registers.{range-r4}
 use Rattle.packed.specs.Packed.{Fit, integers}
 use Rattle.packed.specs.declared.Packed.{Packed}
 
-tab-at : (g : ℕ → ℕ) (n k : ℕ) → k < n → getD (tab g 0 n) k 0 ≡ g k
-tab-at g n k h = tab-from 0 g 0 n k h ∙ ap g (zero-add k)
-
 pub to-r3 : (k : ℕ) → k < 4 → getD (tab (λ k. range (3 - k) 3) 0 4) k 0 ≡ range (3 - k) 3
-to-r3 k h = tab-at (λ k. range (3 - k) 3) 4 k h
+to-r3 k h = tab-has (λ r. r ≡ range (3 - k) 3) (λ k. range (3 - k) 3) 4 k h refl
 
 -- r0 to r3 are four bits
 pub range-r3 : (k : ℕ) → range (3 - k) 3 < 16

@@ -4,6 +4,7 @@ use words::Halfwords;
 use words::Refusal;
 use words::StackWords;
 use words::Verdict;
+use words::bit;
 use words::bits;
 ghost use mathlib.Core.Path.{_≡_};
 ghost use Prim.Native.Nat.{_+_, _-_, _%_, _<_};
@@ -129,14 +130,14 @@ pub fn amount(p: Packed) -> StackWords
 pub fn pf(p: Packed) -> bool
     ensures { λ r. ⌜ r ≡ PF p ⌝ }
 {
-    folded(p) && bits(p.adjust, 2, 1) == 1
+    folded(p) && bit(p.adjust, 2)
 }
 
 // EF: it is folded into the epilogue's pop.
 pub fn ef(p: Packed) -> bool
     ensures { λ r. ⌜ r ≡ EF p ⌝ }
 {
-    folded(p) && bits(p.adjust, 3, 1) == 1
+    folded(p) && bit(p.adjust, 3)
 }
 
 // rS to r3 for S = 3, 2, 1, 0.

@@ -3,7 +3,7 @@
 ghost use mathlib.Core.Path.{_≡_};
 ghost use Prim.Native.Nat.{_+_, _^_, _<_, _≤_};
 ghost use lib.ListN.{length, getD};
-ghost use Rattle.words.specs.Bits.{bits as bitsOf, even as evenOf};
+ghost use Rattle.words.specs.Bits.{bits as bitsOf, bit as bitOf, even as evenOf};
 ghost use Rattle.words.specs.Little.{word32 as word32Of, word64 as word64Of};
 ghost use Rattle.words.specs.Lent.{Lent, lent, holds as holdsOf, wordAt};
 ghost use Rattle.words.specs.Units.{halfwordBytes, stackBytes, codeWordBytes};
@@ -178,6 +178,13 @@ pub fn bits(word: u32, low: u32, width: u32) -> u32
         return high;
     }
     high % (1 << width)
+}
+
+// Whether a bit of a word is set.
+pub fn bit(word: u32, k: u32) -> bool
+    ensures { λ r. ⌜ r ≡ bitOf k word ⌝ }
+{
+    bits(word, k, 1) == 1
 }
 
 // An address with bit 0 cleared.

@@ -5,9 +5,11 @@ use words::CodeBytes;
 use words::Halfwords;
 use words::Refusal;
 use words::Verdict;
+use words::bit;
+use words::bits;
 ghost use mathlib.Core.Path.{_≡_};
-ghost use Prim.Native.Nat.{_+_, _-_, _*_, _<_, _/_, _%_};
-ghost use Rattle.words.specs.Bits.{bits};
+ghost use Prim.Native.Nat.{_+_, _*_, _<_};
+ghost use Rattle.words.specs.Bits.{bits as bitsOf};
 ghost use Rattle.words.specs.Lent.{lent};
 ghost use Rattle.words.specs.Little.{word32};
 ghost use Rattle.words.specs.Units.{halfwords, halfwordBytes};
@@ -42,31 +44,28 @@ pub struct HeadRead {
 pub fn fit(rva: u32, xdata: &[u8]) -> bool
     ensures { λ r. ⌜ r ≡ fitXdata (lent rva (now (xdata .entry))) ⌝ }
 {
-    if rva % 4 == 0 {
-        return (rva as u64) + (xdata.len() as u64) <= 4294967296;
-    }
-    false
+    rva % 4 == 0 && (rva as u64) + (xdata.len() as u64) <= 4294967296
 }
 
 // X: a handler follows the codes.
 fn has_handler(h: Head) -> bool
     ensures { λ r. ⌜ r ≡ X h ⌝ }
 {
-    h.word / 1048576 % 2 == 1
+    bit(h.word, 20)
 }
 
 // E: there is one epilogue, which has the count for an index (RULES 2.10).
 pub fn has_last(h: Head) -> bool
     ensures { λ r. ⌜ r ≡ E h ⌝ }
 {
-    h.word / 2097152 % 2 == 1
+    bit(h.word, 21)
 }
 
 // F: there is no prologue.
 pub fn is_fragment(h: Head) -> bool
     ensures { λ r. ⌜ r ≡ F h ⌝ }
 {
-    h.word / 4194304 % 2 == 1
+    bit(h.word, 22)
 }
 
 // The number of scope words.
@@ -140,14 +139,14 @@ fn long_head(rva: u32, xdata: &[u8], at: u32, word: u32) -> HeadRead
         return no_head(Refusal::OutsideXdata);
     }
     let v = words::word_at(rva, xdata, (at as u64) + 4);
-    if v / 16777216 % 256 != 0 {
+    if bits(v, 24, 8) != 0 {
         return no_head(Refusal::Reserved);
     }
     let h = Head {
         word: word,
         bytes: 8,
-        count: v % 65536,
-        codewords: v / 65536 % 256,
+        count: bits(v, 0, 16),
+        codewords: bits(v, 16, 8),
     };
     whole_record(rva, xdata, at, h)
 }
@@ -159,8 +158,8 @@ fn short_head(rva: u32, xdata: &[u8], at: u32, word: u32) -> HeadRead
     let h = Head {
         word: word,
         bytes: 4,
-        count: word / 8388608 % 32,
-        codewords: word / 268435456 % 16,
+        count: bits(word, 23, 5),
+        codewords: bits(word, 28, 4),
     };
     whole_record(rva, xdata, at, h)
 }
@@ -173,10 +172,10 @@ pub fn head_at(rva: u32, xdata: &[u8], at: u32) -> HeadRead
         return no_head(Refusal::OutsideXdata);
     }
     let word = words::word_at(rva, xdata, at as u64);
-    if word / 262144 % 4 != 0 {
+    if bits(word, 18, 2) != 0 {
         return no_head(Refusal::Reserved);
     }
-    if word / 8388608 % 512 == 0 {
+    if bits(word, 23, 9) == 0 {
         return long_head(rva, xdata, at, word);
     }
     short_head(rva, xdata, at, word)
@@ -220,9 +219,9 @@ pub fn xdata_size(rva: u32, xdata: &[u8], at: u32) -> SizeOf
 
 // The function's length in bytes.
 pub fn span_of(word: u32) -> u32
-    ensures { λ r. ⌜ r ≡ halfwordBytes (halfwords (bits 0 18 word)) ⌝ }
+    ensures { λ r. ⌜ r ≡ halfwordBytes (halfwords (bitsOf 0 18 word)) ⌝ }
 {
-    words::halfword_bytes(Halfwords(word % 262144)) as u32
+    words::halfword_bytes(Halfwords(bits(word, 0, 18))) as u32
 }
 
 // A scope word; its start stands where a head's length does.
@@ -231,8 +230,8 @@ pub fn scope_of(word: u32) -> Scope
 {
     Scope {
         start: Start::From(span_of(word)),
-        condition: word / 1048576 % 16,
-        index: CodeBytes((word / 16777216 % 256) as usize),
+        condition: bits(word, 20, 4),
+        index: CodeBytes(bits(word, 24, 8) as usize),
     }
 }
 
@@ -255,7 +254,7 @@ pub fn res_zero(xdata: &[u8], at: usize, n: usize) -> bool
 {
     let mut k = 0;
     while k < n {
-        if word_after(xdata, at, k) / 262144 % 4 != 0 {
+        if bits(word_after(xdata, at, k), 18, 2) != 0 {
             return false;
         }
         k += 1;

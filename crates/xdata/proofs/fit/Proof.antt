@@ -1,7 +1,8 @@
 -- By the two tests that the definition joins. Assumes nothing.
+use mathlib.Core.Path.{refl}
 use borrow.Author.Tests.{eq-eqb, ne-eqb}
 use borrow.Author.Needs.{needs}
-use Rattle.words.proofs.Tests.{and-true, and-false}
+use Rattle.words.proofs.Tests.{and-true}
 use Rattle.xdata.proofs.fit.Statement.{statement}
 use Rattle.xdata.proofs.fit.Tie as tie
 
@@ -12,7 +13,7 @@ returns : tie.Need-returns
 returns c = and-true _ (eq-eqb _ _ (c .if1 .taken))
 
 returns-2 : tie.Need-returns-2
-returns-2 c = and-false _ (ne-eqb _ _ (c .if1 .left))
+returns-2 c = rw (ne-eqb _ _ (c .if1 .left)) refl
 
 pub fit-spec : {M : Type 1} → statement M
 fit-spec = tie.close (tie.spec add-result returns returns-2)

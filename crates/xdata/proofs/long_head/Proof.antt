@@ -1,20 +1,13 @@
 -- Each return is one case of the definition by its tests. Assumes nothing.
-use Prim.Native.Nat.{_/_, _%_}
-use mathlib.Core.Path.{sym, ap, _∙_}
-use native.Mathlib.Nat.{div-one}
+use mathlib.Core.Bool.{true}
+use mathlib.Core.Path.{_≡_, sym, ap, _∙_}
 use borrow.Author.Tests.{not-true, not-false}
 use borrow.Author.Needs.{needs}
-use Rattle.words.specs.Lent.{lent, holds}
-use Rattle.xdata.specs.as_coded.Heads.{wholeRecord, headRead}
+use Rattle.words.specs.Lent.{Lent, lent, holds}
+use Rattle.xdata.specs.as_coded.Heads.{headRead}
 use Rattle.xdata.proofs.Heads.{long-outside, long-reserved, long-given}
 use Rattle.xdata.proofs.long_head.Statement.{statement}
 use Rattle.xdata.proofs.long_head.Tie as tie
-
-holds-requires : tie.Need-holds-requires
-holds-requires c κs = search needs
-
-no-head-requires : tie.Need-no-head-requires
-no-head-requires c κs = search needs
 
 returns : tie.Need-returns
 returns c =
@@ -25,39 +18,39 @@ returns c =
 add-word-at : tie.Need-add-word-at
 add-word-at c = search needs
 
-word-at-requires : tie.Need-word-at-requires
-word-at-requires c κs = search needs
+-- the .xdata; the extension word is lent where it is read
+abbrev bytes : tie.After-word-at → Lent
+bytes c = let a = c .before .before .before .before .args in lent (a .rva) (a .xdata .now)
 
-no-head-requires-2 : tie.Need-no-head-requires-2
-no-head-requires-2 c κs = search needs
+here : (c : tie.After-word-at) → holds (bytes c) (c .before .before .before .before .args .at) 8 ≡ true
+here c = sym (c .before .before .holds .ensures) ∙ not-false _ (c .before .if1 .left)
 
 returns-2 : tie.Need-returns-2
 returns-2 c =
-    let a = c .before .before .before .before .before .before .args in
-    c .no-head2 .ensures
-    ∙ ap headRead (sym (long-reserved (lent (a .rva) (a .xdata .now)) (a .at) (a .word) (c .before .before .word-at .result) (c .before .before .word-at .ensures) (sym (c .before .before .before .before .holds .ensures) ∙ not-false _ (c .before .before .before .if1 .left)) (c .before .if2 .taken)))
-
-whole-record-requires : tie.Need-whole-record-requires
-whole-record-requires c κs = search needs
+    let w = c .before .before .before in
+    let z = rw (c .before .before .bits .ensures .0) at (c .before .if2 .taken) in
+    c .no-head2 .ensures ∙ ap headRead (sym (long-reserved (bytes w) _ _ _ (w .word-at .ensures) (here w) z))
 
 returns-3 : tie.Need-returns-3
 returns-3 c =
-    let a = c .before .before .before .before .before .before .args in
-    let v = c .before .before .word-at .result in
-    c .whole-record .ensures
-    ∙ ap (λ n. headRead (wholeRecord (lent (a .rva) (a .xdata .now)) (a .at) (record { word = a .word; bytes = 8; count = n % 65536; codewords = v / 65536 % 256 }))) (sym (div-one v))
-    ∙ ap headRead (sym (long-given (lent (a .rva) (a .xdata .now)) (a .at) (a .word) v (c .before .before .word-at .ensures) (sym (c .before .before .before .before .holds .ensures) ∙ not-false _ (c .before .before .before .if1 .left)) (c .before .if2 .left)))
+    let w = c .before .before .before .before .before in
+    let z = rw (c .before .before .before .before .bits .ensures .0) at (c .before .before .before .if2 .left) in
+    rw (c .before .before .bits2 .ensures .0, c .before .bits3 .ensures .0) at (c .whole-record .ensures)
+    ∙ ap headRead (sym (long-given (bytes w) _ _ _ (w .word-at .ensures) (here w) z))
 
 pub long-head-spec : {M : Type 1} → statement M
 long-head-spec =
     tie.close
     (tie.spec
-    holds-requires
-    no-head-requires
+    (λ c κs. tt)
+    (λ c κs. tt)
     returns
     add-word-at
-    word-at-requires
-    no-head-requires-2
+    (λ c κs. tt)
+    (λ c κs. tt)
+    (λ c κs. tt)
     returns-2
-    whole-record-requires
+    (λ c κs. tt)
+    (λ c κs. tt)
+    (λ c κs. tt)
     returns-3)

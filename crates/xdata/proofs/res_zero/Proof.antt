@@ -23,11 +23,15 @@ loop-holds c =
 word-after-requires : tie.Need-word-after-requires Inv-loop μ-loop
 word-after-requires c κs = search needs
 
+bits-requires : tie.Need-bits-requires Inv-loop μ-loop
+bits-requires c κs = search needs
+
 returns : tie.Need-returns Inv-loop μ-loop
 returns c =
-    let a = c .before .before .before .before .before .args in
-    let l = c .before .before .before .loop in
-    sym (l .inv .1 ∙ res-stops (a .xdata .now) (a .at) (l .k) (a .n) (c .before .word-after .result) (c .before .before .loop-test .taken) (c .before .word-after .ensures) (c .if1 .taken))
+    let a = c .before .before .before .before .before .before .args in
+    let l = c .before .before .before .before .loop in
+    let z = rw (c .before .bits .ensures .0) at (c .if1 .taken) in
+    sym (l .inv .1 ∙ res-stops (a .xdata .now) (a .at) (l .k) (a .n) _ (c .before .before .before .loop-test .taken) (c .before .before .word-after .ensures) z)
 
 add-k : tie.Need-add-k Inv-loop μ-loop
 add-k c = search needs
@@ -37,9 +41,10 @@ loop-less c = search needs
 
 loop-again : tie.Need-loop-again Inv-loop μ-loop
 loop-again c =
-    let a = c .before .before .before .before .before .args in
-    let l = c .before .before .before .loop in
-    (omega arith, l .inv .1 ∙ res-goes-on (a .xdata .now) (a .at) (l .k) (a .n) (c .before .word-after .result) (c .before .before .loop-test .taken) (c .before .word-after .ensures) (c .if1 .left))
+    let a = c .before .before .before .before .before .before .args in
+    let l = c .before .before .before .before .loop in
+    let z = rw (c .before .bits .ensures .0) at (c .if1 .left) in
+    (omega arith, l .inv .1 ∙ res-goes-on (a .xdata .now) (a .at) (l .k) (a .n) _ (c .before .before .before .loop-test .taken) (c .before .before .word-after .ensures) z)
 
 returns-2 : tie.Need-returns-2 Inv-loop μ-loop
 returns-2 c =
@@ -55,6 +60,7 @@ res-zero-spec =
     μ-loop
     loop-holds
     word-after-requires
+    bits-requires
     returns
     add-k
     loop-less
