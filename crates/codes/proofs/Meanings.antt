@@ -9,7 +9,7 @@ use native.Mathlib.Omega.{arith}
 use borrow.Author.Tests.{eqb-true, eqb-false}
 use Rattle.words.specs.Bits.{bits}
 use Rattle.words.specs.Units.{stackWords}
-use Rattle.words.proofs.Laws.{leb-same}
+use Rattle.words.proofs.Tests.{leb-same}
 use Rattle.words.specs.Answer.{if_then_else_}
 use Rattle.codes.specs.Table.{rows, rowIn, rowOf, range, lrIf}
 use Rattle.codes.specs.declared.Undo.the-variants.{Up, Pop, SpFrom, Vpop, LoadLr, Nothing}

@@ -17,7 +17,7 @@ use prog.Memory.{Memory}
 use prog.Routine.{Routine}
 use prog.Wp.{Heap}
 use denote.Triple.Clauses.{AtExit}
-use Rattle.words.specs.Lent.{lent}
+use Rattle.lent.specs.Lent.{lent}
 use Rattle.words.specs.Refusals.{verdictNumber}
 use Rattle.frame.specs.Frame.{Inputs, inputs}
 use Rattle.walking.specs.Walk.{Trail, walk, walked, filled, walkedAll}

@@ -8,7 +8,7 @@ use lib.ListN.{replicate}
 use native.Mathlib.Omega.{arith}
 use borrow.Author.Tests.{eq-eqb, le-leb, lt-ltb}
 use Rattle.words.specs.Bits.{bit, even}
-use Rattle.words.specs.Lent.{Lent, end, wordAt}
+use Rattle.lent.specs.Lent.{Lent, end, wordAt}
 use Rattle.words.specs.Units.{halfwords, stackWords, codeBytes, stackBytes}
 use Rattle.words.specs.declared.Place.{Place}
 use Rattle.words.specs.declared.Place.the-variants.{Leaf, Prologue, Body, Epilogue}
@@ -38,7 +38,7 @@ use Rattle.report.specs.Report.{report, mark}
 use Rattle.listing.specs.Listing.{listing}
 use Rattle.text.specs.Text.{text}
 use Rattle.listing.proofs.Opened.{opened}
-use Rattle.words.proofs.Bytes.{bytesOf}
+use Rattle.lent.proofs.Bytes.{bytesOf}
 use Rattle.record.proofs.At.{at, says}
 use Rattle.forward.specs.Met.{At}
 use Rattle.forward.proofs.Framed.{stack-end, passed}

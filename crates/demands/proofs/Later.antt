@@ -10,7 +10,7 @@ use lib.ListN.{length}
 use lib.Dec.{leb, ltb, eqb}
 use native.Mathlib.Omega.{arith}
 use Rattle.words.specs.Bits.{even}
-use Rattle.words.specs.Lent.{Lent}
+use Rattle.lent.specs.Lent.{Lent}
 use Rattle.words.specs.declared.Place.{Place}
 use Rattle.words.specs.declared.Place.the-variants.{Leaf, Prologue, Epilogue}
 use Rattle.words.specs.declared.Refusal.{Refusal}

@@ -12,7 +12,7 @@ use lib.Dec.{leb, ltb, eqb}
 use native.Mathlib.Omega.{arith}
 use Rattle.words.specs.Bits.{bits, bit, even}
 use Rattle.words.specs.Units.{codeBytes}
-use Rattle.words.specs.Lent.{Lent, holds, wordAt}
+use Rattle.lent.specs.Lent.{Lent, holds, wordAt}
 use Rattle.words.specs.Refusals.{number}
 use Rattle.words.specs.declared.CodeBytes.{CodeBytes}
 use Rattle.words.specs.declared.Place.{Place}

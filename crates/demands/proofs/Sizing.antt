@@ -8,10 +8,10 @@ use mathlib.Core.Bool.{Bool, true, false}
 use lib.Dec.{eqb}
 use native.Mathlib.Omega.{arith}
 use Rattle.words.specs.Bits.{bits, bit}
-use Rattle.words.specs.Lent.{Lent, holds, wordAt}
+use Rattle.lent.specs.Lent.{Lent, holds, wordAt}
 use Rattle.words.specs.declared.Refusal.the-variants.{UnfitInput, Reserved, OutsideXdata}
 use Rattle.words.specs.declared.Verdict.the-variants.{Given}
-use Rattle.words.proofs.Bytes.{bytesOf}
+use Rattle.lent.proofs.Bytes.{bytesOf}
 use Rattle.words.specs.Answer.{Res, ok, refuse, verdict, if_then_else_}
 use Rattle.xdata.specs.Xdata.{fitXdata, recordBytes, shortHead, longHead, headAt, xdataSize, sizeAnswer}
 use Rattle.xdata.specs.as_coded.Heads.{wholeRecord}

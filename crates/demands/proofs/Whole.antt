@@ -9,7 +9,7 @@ use lib.ListN.{length, getD, length-append}
 use lib.Dec.{leb, eqb}
 use native.Mathlib.Omega.{arith}
 use borrow.Author.Tests.{leb-true, leb-false, eqb-true, eqb-false}
-use Rattle.words.specs.Lent.{lent, wordAt}
+use Rattle.lent.specs.Lent.{lent, wordAt}
 use Rattle.words.specs.declared.Refusal.the-variants.{UnfitReport}
 use Rattle.words.specs.Answer.{ok, refuse}
 use Rattle.report.specs.Report.{Report, report, headBytes, endAt}

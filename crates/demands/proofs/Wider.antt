@@ -12,7 +12,7 @@ use lib.Dec.{leb, ltb, eqb}
 use native.Mathlib.Omega.{arith}
 use borrow.Author.Tests.{leb-true, le-leb}
 use Rattle.words.specs.Bits.{bits, bit, even}
-use Rattle.words.specs.Lent.{Lent, end, holds, wordAt}
+use Rattle.lent.specs.Lent.{Lent, end, holds, wordAt}
 use Rattle.words.specs.Units.{codeWordBytes}
 use Rattle.words.specs.declared.Refusal.the-variants.{BadStack, OutsideXdata, Reserved, UnfitInput}
 use Rattle.words.specs.Answer.{ok, if_then_else_, maybe}

@@ -3,7 +3,7 @@
 use Prim.Native.Nat.{ℕ}
 use mathlib.Core.Path.{_≡_}
 use mathlib.Core.List.{List}
-use Rattle.words.specs.Lent.{Lent}
+use Rattle.lent.specs.Lent.{Lent}
 use Rattle.machine.specs.declared.Regs.{Regs}
 use Rattle.packed.specs.declared.Packed.{Packed}
 use Rattle.frame.specs.Frame.{Inputs}

@@ -2,7 +2,7 @@
 use Prim.Native.Nat.{ℕ}
 use mathlib.Core.List.{List}
 use lib.ListN.{length}
-use Rattle.words.specs.Lent.{Lent}
+use Rattle.lent.specs.Lent.{Lent}
 use Rattle.unwinding.specs.Singly as Singly
 use Rattle.machine.specs.declared.Regs.{Regs}
 use Rattle.pdata.specs.Pdata.{find, found}

@@ -5,7 +5,7 @@ use mathlib.Core.List.{List, [], _∷_, _++_}
 use lib.Dec.{leb, eqb}
 use lib.ListN.{length, take, replicate, getD}
 use Rattle.words.specs.Bits.{bit}
-use Rattle.words.specs.Lent.{Lent, wordAt}
+use Rattle.lent.specs.Lent.{Lent, wordAt}
 use Rattle.words.specs.Units.{codeBytes}
 use Rattle.words.specs.declared.Refusal.{Refusal}
 use Rattle.words.specs.declared.Verdict.the-variants.{Given}

@@ -4,7 +4,7 @@ use Prim.Native.Nat.{ℕ, _+_, _-_, _*_, _%_, _≤_}
 use mathlib.Core.Path.{_≡_}
 use lib.Dec.{eqb}
 use Rattle.words.specs.Bits.{bits, bit}
-use Rattle.words.specs.Lent.{Lent, end, wordAt}
+use Rattle.lent.specs.Lent.{Lent, end, wordAt}
 use Rattle.words.specs.declared.Verdict.the-variants.{Given}
 use Rattle.words.specs.Answer.{if_then_else_}
 use Rattle.demands.specs.Reader.{Reader}

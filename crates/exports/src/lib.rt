@@ -5,7 +5,7 @@ use pdata::Found;
 use words::Halfwords;
 ghost use mathlib.Core.Path.{_≡_};
 ghost use lib.ListN.{length};
-ghost use Rattle.words.specs.Lent.{lent};
+ghost use Rattle.lent.specs.Lent.{lent};
 ghost use Rattle.words.specs.Refusals.{verdictNumber};
 ghost use Rattle.pdata.specs.Pdata.{find, found};
 ghost use Rattle.xdata.specs.Xdata.{xdataSize, sizeAnswer};

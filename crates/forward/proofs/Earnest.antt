@@ -9,7 +9,7 @@ use mathlib.Core.Logic.{_≢_, inl, inr}
 use lib.Dec.{ltb, eqb}
 use native.Mathlib.Omega.{arith}
 use borrow.Author.Tests.{ltb-true, eqb-false}
-use Rattle.words.specs.Lent.{Lent, end, wordAt}
+use Rattle.lent.specs.Lent.{Lent, end, wordAt}
 use Rattle.words.specs.declared.Place.the-variants.{Prologue, Body, Epilogue}
 use mathlib.Core.Option.{some}
 use Rattle.words.specs.Answer.{ok, if_then_else_}

@@ -10,8 +10,8 @@ use mathlib.Core.Logic.{inl, inr}
 use lib.ListN.{replicate}
 use native.Mathlib.Omega.{arith}
 use Rattle.words.specs.Bits.{even}
-use Rattle.words.specs.Lent.{lent}
-use Rattle.words.proofs.Bytes.{bytesOf}
+use Rattle.lent.specs.Lent.{lent}
+use Rattle.lent.proofs.Bytes.{bytesOf}
 use Rattle.words.specs.Units.{halfwords, stackWords}
 use Rattle.words.specs.declared.Place.the-variants.{Prologue, Body, Epilogue}
 use Rattle.words.specs.Answer.{Res, ok, orElse}

@@ -6,7 +6,7 @@ use mathlib.Core.Path.{_≡_, refl, ap, _∙_}
 use mathlib.Core.List.{List, [], _∷_, _++_}
 use lib.ListN.{length}
 use native.Mathlib.Omega.{arith}
-use Rattle.words.specs.Lent.{Lent, end}
+use Rattle.lent.specs.Lent.{Lent, end}
 use Rattle.words.specs.Units.{stackBytes}
 use Rattle.unwinding.specs.CodeList.{total}
 use Rattle.codes.specs.Code.{size}

@@ -11,7 +11,7 @@ use lib.ListN.{length}
 use native.Mathlib.Omega.{arith}
 use borrow.Author.Tests.{eqb-false, eq-eqb, ne-eqb, leb-true, le-leb, lt-ltb}
 use Rattle.words.specs.Bits.{bits, even}
-use Rattle.words.specs.Lent.{Lent, end}
+use Rattle.lent.specs.Lent.{Lent, end}
 use Rattle.words.specs.Units.{codeBytes, halfwordBytes}
 use Rattle.words.specs.declared.CodeBytes.{CodeBytes}
 use Rattle.words.specs.declared.Refusal.the-variants.{Reserved}

@@ -8,7 +8,7 @@ use lib.Dec.{ltb, eqb}
 use lib.ListN.{getD, set}
 use native.Mathlib.Omega.{arith}
 use Rattle.words.specs.Bits.{bit}
-use Rattle.words.specs.Lent.{Lent, holds, wordAt}
+use Rattle.lent.specs.Lent.{Lent, holds, wordAt}
 use Rattle.words.specs.declared.Refusal.the-variants.{BadStack}
 use Rattle.words.specs.Answer.{ok, if_then_else_}
 use Rattle.codes.specs.declared.Undo.{Undo}

@@ -6,7 +6,7 @@ use mathlib.Core.Path.{_≡_, refl, sym, ap, _∙_, subst}
 use mathlib.Core.Logic.{inl, inr}
 use mathlib.Core.List.{List, [], _∷_, _++_}
 use native.Mathlib.Omega.{arith}
-use Rattle.words.specs.Lent.{Lent, wordAt}
+use Rattle.lent.specs.Lent.{Lent, wordAt}
 use Rattle.codes.specs.declared.Code.{Code}
 use Rattle.codes.specs.declared.Undo.{Undo}
 use Rattle.codes.specs.declared.Undo.the-variants.{Up, Pop, SpFrom, Vpop, LoadLr, Nothing}

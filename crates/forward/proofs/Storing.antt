@@ -9,8 +9,8 @@ use lib.Dec.{ltb}
 use lib.ListN.{length, getD, set, length-set}
 use lib.Seq.{getD-set-same, getD-set-other}
 use native.Mathlib.Omega.{arith}
-use Rattle.words.specs.Little.{word32}
-use Rattle.words.specs.Lent.{Lent, end, wordAt}
+use Rattle.lent.specs.Little.{word32}
+use Rattle.lent.specs.Lent.{Lent, end, wordAt}
 use Rattle.words.specs.Answer.{if_then_else_}
 use Rattle.machine.specs.declared.Regs.{Regs}
 use Rattle.forward.specs.Registers.{value, width, held}

@@ -10,7 +10,7 @@ use lib.Dec.{ltb}
 use native.Mathlib.Omega.{arith}
 use borrow.Author.Tests.{eq-eqb, le-leb, lt-ltb, le-ltb}
 use Rattle.words.specs.Bits.{bit}
-use Rattle.words.specs.Lent.{Lent, end, wordAt}
+use Rattle.lent.specs.Lent.{Lent, end, wordAt}
 use Rattle.words.specs.Answer.{Res, ok, _>>=_, if_then_else_}
 use Rattle.unwinding.specs.CodeList.{run}
 use Rattle.unwinding.proofs.All.{All}

@@ -8,7 +8,7 @@ use lib.ListN.{length, getD}
 use native.Mathlib.Omega.{arith}
 use borrow.Author.Tests.{le-leb, le-ltb, lt-ltb}
 use Rattle.words.specs.Bits.{even}
-use Rattle.words.specs.Lent.{Lent, end}
+use Rattle.lent.specs.Lent.{Lent, end}
 use Rattle.words.specs.declared.Place.{Place}
 use Rattle.words.specs.Answer.{ok}
 use Rattle.unwinding.specs.Shape.{Shape}

@@ -6,7 +6,7 @@ use mathlib.Core.Bool.{true, _&&_}
 use mathlib.Core.Option.{some}
 use lib.ListN.{length, getD}
 use Rattle.words.specs.Bits.{even}
-use Rattle.words.specs.Lent.{Lent, end}
+use Rattle.lent.specs.Lent.{Lent, end}
 use Rattle.words.specs.declared.Place.{Place}
 use Rattle.words.specs.declared.Verdict.the-variants.{Given}
 use Rattle.words.specs.Answer.{ok}

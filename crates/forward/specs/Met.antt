@@ -8,7 +8,7 @@ use mathlib.Core.Bool.{true}
 use mathlib.Core.Option.{some}
 use lib.ListN.{getD}
 use Rattle.words.specs.Bits.{even}
-use Rattle.words.specs.Lent.{end}
+use Rattle.lent.specs.Lent.{end}
 use Rattle.words.specs.declared.Place.{Place}
 use Rattle.words.specs.declared.Place.the-variants.{Prologue, Body, Epilogue}
 use Rattle.words.specs.Answer.{ok}

@@ -4,7 +4,7 @@ use Prim.Native.Nat.{ℕ, _+_, _<_}
 use mathlib.Core.Path.{_≡_}
 use mathlib.Core.Logic.{_≢_}
 use mathlib.Core.List.{List, [], _∷_}
-use Rattle.words.specs.Lent.{Lent, wordAt}
+use Rattle.lent.specs.Lent.{Lent, wordAt}
 use Rattle.words.specs.Units.{stackBytes}
 use Rattle.words.specs.declared.StackWords.{StackWords}
 use Rattle.codes.specs.declared.Code.{Code}

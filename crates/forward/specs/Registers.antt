@@ -4,7 +4,7 @@ use mathlib.Core.Path.{_≡_}
 use mathlib.Core.Logic.{_⊎_}
 use lib.ListN.{getD}
 use lib.Dec.{ltb}
-use Rattle.words.specs.Lent.{Lent, wordAt}
+use Rattle.lent.specs.Lent.{Lent, wordAt}
 use Rattle.words.specs.Answer.{if_then_else_}
 use Rattle.machine.specs.Registers.{reg}
 use Rattle.machine.specs.declared.Regs.{Regs}

@@ -3,7 +3,7 @@ use Prim.Native.Nat.{ℕ, _+_, _≤_, _<_}
 use mathlib.Core.Path.{_≡_}
 use mathlib.Core.Logic.{_⊎_}
 use lib.ListN.{length, getD}
-use Rattle.words.specs.Lent.{Lent}
+use Rattle.lent.specs.Lent.{Lent}
 use Rattle.machine.specs.declared.Regs.{Regs}
 
 -- r0-r12 and d0-d31 are there

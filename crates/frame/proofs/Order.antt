@@ -4,13 +4,13 @@ use Prim.Native.Nat.{ℕ}
 use mathlib.Core.Path.{_≡_, refl}
 use mathlib.Core.List.{List, [], _∷_, _++_}
 use lib.ListN.{replicate}
-use Rattle.words.specs.Lent.{Lent}
+use Rattle.lent.specs.Lent.{Lent}
 use Rattle.words.specs.Refusals.{verdictNumber}
 use Rattle.words.specs.declared.Place.the-variants.{Leaf, Prologue}
 use Rattle.words.specs.Answer.{Res, ok, verdict}
 use Rattle.machine.specs.declared.Regs.{Regs}
 use Rattle.frame.specs.Frame.{Inputs, Caller, frame, unwound}
-use Rattle.words.proofs.Bytes.{bytesOf}
+use Rattle.lent.proofs.Bytes.{bytesOf}
 use Rattle.frame.proofs.Opened.{opened}
 
 abbrev regs : (pc sp r7 : ℕ) → Regs

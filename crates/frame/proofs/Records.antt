@@ -5,7 +5,7 @@ use mathlib.Core.Path.{_≡_, refl, ap, _∙_}
 use mathlib.Core.List.{List, _++_}
 use mathlib.Core.Bool.{Bool, true, false}
 use lib.Dec.{ltb}
-use Rattle.words.specs.Lent.{Lent, lent}
+use Rattle.lent.specs.Lent.{Lent, lent}
 use Rattle.words.specs.Bits.{bits, even}
 use Rattle.words.specs.declared.Verdict.the-variants.{Given, Refused}
 use Rattle.words.specs.Answer.{if_then_else_, _>>=_, _>>_}

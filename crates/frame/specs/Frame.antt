@@ -6,7 +6,7 @@ use mathlib.Core.Option.{Option}
 use lib.ListN.{length}
 use lib.Dec.{leb, ltb, eqb}
 use Rattle.words.specs.Bits.{even}
-use Rattle.words.specs.Lent.{Lent, lent, end}
+use Rattle.lent.specs.Lent.{Lent, lent, end}
 use Rattle.words.specs.declared.Place.{Place}
 use Rattle.words.specs.declared.Place.the-variants.{Leaf}
 use Rattle.words.specs.declared.Refusal.the-variants.{UnfitInput, BadStack, SpFell, NoRecord}

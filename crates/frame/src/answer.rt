@@ -11,7 +11,7 @@ ghost use mathlib.Core.Path.{_≡_};
 ghost use Prim.Native.Nat.{ℕ, _-_, _≤_};
 ghost use mathlib.Core.List.{List};
 ghost use Rattle.words.specs.Bits.{even};
-ghost use Rattle.words.specs.Lent.{lent};
+ghost use Rattle.lent.specs.Lent.{lent};
 ghost use Rattle.words.specs.Answer.{refuse};
 ghost use Rattle.frame.specs.Frame.{returned as returnedOf, uncovered as uncoveredOf, byRecord, inputs, unwound};
 ghost use Rattle.frame.specs.as_coded.FromPlace.{ranFrom, fromPlaced, byFull, byPacked};

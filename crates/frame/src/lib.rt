@@ -15,7 +15,7 @@ ghost use mathlib.Core.Bool.{_&&_};
 ghost use mathlib.Core.List.{List};
 ghost use mathlib.Core.Option.{Option};
 ghost use Prim.Native.Nat.{ℕ};
-ghost use Rattle.words.specs.Lent.{lent};
+ghost use Rattle.lent.specs.Lent.{lent};
 ghost use Rattle.words.specs.Answer.{Res};
 ghost use Rattle.pdata.specs.declared.Entry.{Entry};
 ghost use Rattle.pdata.specs.Pdata.{found as foundOf};

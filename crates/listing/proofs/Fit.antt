@@ -9,7 +9,7 @@ use Rattle.words.specs.Answer.{refuse}
 use Rattle.report.specs.Report.{report, mark}
 use Rattle.text.specs.Text.{text}
 use Rattle.listing.specs.Listing.{listing}
-use Rattle.words.proofs.Bytes.{bytesOf}
+use Rattle.lent.proofs.Bytes.{bytesOf}
 use Rattle.listing.proofs.Opened.{opened}
 
 -- a report of this mark, these six words, all registers 0 but pc, and these bytes

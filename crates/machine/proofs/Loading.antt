@@ -7,7 +7,7 @@ use lib.Dec.{leb}
 use native.Mathlib.Omega.{arith}
 use borrow.Author.Tests.{leb-true}
 use Rattle.words.proofs.Tests.{both}
-use Rattle.words.specs.Lent.{Lent, end, holds, wordAt}
+use Rattle.lent.specs.Lent.{Lent, end, holds, wordAt}
 use Rattle.words.specs.declared.Refusal.the-variants.{BadStack}
 use Rattle.words.specs.Answer.{ok, need, _>>_}
 use Rattle.machine.specs.Step.{load}

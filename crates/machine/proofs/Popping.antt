@@ -9,7 +9,7 @@ use lib.ListN.{set}
 use native.Mathlib.Numerals.{add-one}
 use native.Mathlib.Omega.{arith}
 use Rattle.words.specs.Bits.{bit}
-use Rattle.words.specs.Lent.{Lent}
+use Rattle.lent.specs.Lent.{Lent}
 use Rattle.words.specs.Units.{stackBytes}
 use Rattle.words.specs.declared.StackWords.{StackWords}
 use Rattle.words.specs.declared.Refusal.{Refusal}

@@ -5,7 +5,7 @@ use mathlib.Core.Path.{_≡_}
 use mathlib.Core.Bool.{true, _&&_}
 use lib.Dec.{leb, ltb, eqb}
 use borrow.Author.Tests.{leb-true, ltb-true, eqb-true}
-use Rattle.words.specs.Lent.{Lent, end}
+use Rattle.lent.specs.Lent.{Lent, end}
 use Rattle.machine.specs.Step.{stands}
 use Rattle.words.proofs.Tests.{both}
 

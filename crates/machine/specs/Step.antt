@@ -3,7 +3,7 @@ use Prim.Native.Nat.{ℕ, zero, suc, _+_, _-_, _*_, _%_, _^_}
 use mathlib.Core.Bool.{Bool, _&&_}
 use lib.Dec.{leb, ltb, eqb}
 use Rattle.words.specs.Bits.{bit}
-use Rattle.words.specs.Lent.{Lent, end, holds, wordAt}
+use Rattle.lent.specs.Lent.{Lent, end, holds, wordAt}
 use Rattle.words.specs.Units.{stackBytes}
 use Rattle.words.specs.declared.Refusal.the-variants.{BadStack}
 use Rattle.words.specs.Answer.{Res, ok, _>>=_, _>>_, need, if_then_else_}

@@ -12,7 +12,7 @@ ghost use Prim.Native.Nat.{ℕ, _+_, _-_, _*_, _<_, _^_};
 ghost use lib.Dec.{eqb};
 ghost use lib.ListN.{length, getD, set};
 ghost use Rattle.words.specs.Bits.{bit};
-ghost use Rattle.words.specs.Lent.{lent};
+ghost use Rattle.lent.specs.Lent.{lent};
 ghost use Rattle.words.specs.Answer.{refuse, if_then_else_};
 ghost use Rattle.codes.specs.Code.{scan};
 ghost use Rattle.machine.specs.Step.{stands as standsOf, load as loadOf, pop as popOf, vpop as vpopOf, effect as effectOf, step as stepOf};
@@ -129,8 +129,8 @@ pub fn stands(base: u32, stack: &[u8], sp: u64) -> bool
 pub fn load(base: u32, stack: &[u8], at: u64) -> Loaded
     ensures { λ r. ⌜ r ≡ loaded (loadOf (lent base (now (stack .entry))) at) ⌝ }
 {
-    if words::holds(base, stack, at, 4) {
-        return Loaded::Word(words::word_at(base, stack, at));
+    if lent::holds(base, stack, at, 4) {
+        return Loaded::Word(lent::word_at(base, stack, at));
     }
     Loaded::Refused(Refusal::BadStack)
 }

@@ -11,7 +11,7 @@ use native.Mathlib.Omega.{arith}
 use borrow.Author.Tests.{ltb-true, lt-ltb, le-ltb, le-leb, lt-leb}
 use Rattle.words.proofs.Tests.{both}
 use Rattle.words.specs.Bits.{even}
-use Rattle.words.specs.Little.{word32}
+use Rattle.lent.specs.Little.{word32}
 use Rattle.words.specs.declared.Refusal.the-variants.{UnfitInput, PcBelowBase, StartsNotAscending}
 use Rattle.words.specs.Answer.{ok, refuse}
 use Rattle.unwinding.specs.View.{ascending}

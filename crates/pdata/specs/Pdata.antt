@@ -6,7 +6,7 @@ use mathlib.Core.Option.{Option, none, some}
 use lib.ListN.{length}
 use lib.Dec.{leb, eqb}
 use Rattle.words.specs.Bits.{even}
-use Rattle.words.specs.Little.{word32}
+use Rattle.lent.specs.Little.{word32}
 use Rattle.words.specs.declared.Refusal.the-variants.{UnfitInput, PcBelowBase, StartsNotAscending}
 use Rattle.words.specs.Answer.{Res, ok, need, if_then_else_, either, maybe, _>>=_, _>>_}
 use Rattle.unwinding.specs.View.{ascending}

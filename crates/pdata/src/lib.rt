@@ -5,7 +5,7 @@ ghost use mathlib.Core.Bool.{true};
 ghost use Prim.Native.Nat.{_+_, _*_, _/_, _<_, _-_, _%_};
 ghost use lib.ListN.{length};
 ghost use Rattle.words.specs.Bits.{even as evenOf};
-ghost use Rattle.words.specs.Little.{word32};
+ghost use Rattle.lent.specs.Little.{word32};
 ghost use Rattle.words.specs.Answer.{ok, refuse};
 ghost use Rattle.unwinding.specs.View.{ascending as ascendingOf};
 ghost use Rattle.pdata.specs.Pdata.{entries, entryAt, starts, lastUpTo, find as findOf, findRva, found, checked as checkedOf};
@@ -46,7 +46,7 @@ fn word_of(pdata: &[u8], i: usize, k: usize) -> u32
     if pdata.len() / 8 < i {
         return 0;
     }
-    words::word32(pdata, 8 * i + k)
+    lent::word32(pdata, 8 * i + k)
 }
 
 // The start of record i, with bit 0 cleared.

@@ -7,7 +7,7 @@ use Rattle.words.specs.declared.Refusal.{Refusal}
 use Rattle.words.specs.declared.Verdict.{Verdict}
 use Rattle.words.specs.declared.Verdict.the-variants.{Given, Refused}
 use Rattle.words.specs.Answer.{verdict, _>>=_}
-use Rattle.words.specs.Lent.{lent}
+use Rattle.lent.specs.Lent.{lent}
 use Rattle.unwinding.specs.View.{view}
 use Rattle.codes.specs.Code.{size, codesAt}
 use Rattle.record.specs.Record.{fullShape, packedShape}

@@ -18,7 +18,7 @@ ghost use Rattle.words.specs.Units.{codeBytes};
 ghost use Rattle.reader.specs.as_coded.Skip.{skipAt};
 ghost use Rattle.record.specs.as_coded.Plan.{scopesFrom, fullPlan, fullAnswer, packedPlan, packedAnswer};
 ghost use Rattle.place.specs.as_coded.Look.{bySkip, inHere, inSeen, spotOf, noSpot as noSpotOf};
-ghost use Rattle.words.specs.Lent.{lent};
+ghost use Rattle.lent.specs.Lent.{lent};
 ghost use Rattle.words.specs.Answer.{verdict};
 ghost use Rattle.place.specs.Judged.{fullView, packedView, viewAt};
 ghost use Rattle.place.specs.as_coded.Placed.{refusedOf, inPlan, fullPlaced, packedPlaced};

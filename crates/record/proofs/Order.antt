@@ -4,14 +4,14 @@ use Prim.Native.Nat.{ℕ}
 use mathlib.Core.Path.{_≡_, refl}
 use mathlib.Core.List.{List, _∷_, []}
 use mathlib.Core.Option.{none}
-use Rattle.words.specs.Lent.{Lent}
+use Rattle.lent.specs.Lent.{Lent}
 use Rattle.words.specs.declared.Refusal.the-variants.{UnfitInput, PcBelowBase, StartsNotAscending, Reserved, OutsideXdata}
 use Rattle.words.specs.Answer.{ok, refuse}
 use Rattle.pdata.specs.Pdata.{find}
 use Rattle.xdata.specs.Xdata.{xdataSize}
 use Rattle.record.specs.Record.{fullShape, packedShape}
 use Rattle.record.proofs.Opened.{opened}
-use Rattle.words.proofs.Bytes.{bytesOf}
+use Rattle.lent.proofs.Bytes.{bytesOf}
 
 -- .pdata (RULES 9.55): 1 before 2, 2 before 3; 3 looks at the whole table, bit 0 cleared
 length-first : find 0x400000 (bytesOf (0x1000 ∷ 0 ∷ 0 ∷ [])) 0x3FFFFE ≡ refuse UnfitInput

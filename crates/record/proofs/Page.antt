@@ -4,7 +4,7 @@ use Prim.Native.Nat.{ℕ, _+_, _^_}
 use mathlib.Core.Path.{_≡_, refl}
 use mathlib.Core.List.{List, _∷_, _++_, []}
 use lib.ListN.{replicate, length}
-use Rattle.words.specs.Lent.{Lent}
+use Rattle.lent.specs.Lent.{Lent}
 use Rattle.words.specs.Units.{halfwords, stackWords, codeBytes}
 use Rattle.words.specs.declared.Verdict.the-variants.{Given}
 use Rattle.words.specs.declared.Place.the-variants.{Prologue, Body, Epilogue}
@@ -20,7 +20,7 @@ use Rattle.packed_codes.specs.PackedCodes.{writeCodes}
 use Rattle.xdata.specs.Xdata.{xdataSize}
 use Rattle.record.specs.Record.{fullShape}
 use Rattle.record.proofs.Opened.{opened}
-use Rattle.words.proofs.Bytes.{bytesOf}
+use Rattle.lent.proofs.Bytes.{bytesOf}
 use Rattle.record.proofs.At.{at, says}
 
 abbrev wrote : (first second : List ℕ) → (rest : ℕ) → Res CodesOf

@@ -11,8 +11,8 @@ use lib.Dec.{eqb, leb}
 use native.Mathlib.Omega.{arith}
 use borrow.Author.Tests.{eq-eqb, ne-eqb, leb-true}
 use Rattle.words.specs.Bits.{bits}
-use Rattle.words.specs.Lent.{Lent, lent, holds, wordAt}
-use Rattle.words.specs.Little.{word32}
+use Rattle.lent.specs.Lent.{Lent, lent, holds, wordAt}
+use Rattle.lent.specs.Little.{word32}
 use Rattle.words.specs.Units.{codeBytes, codeWordBytes, halfwordBytes}
 use Rattle.words.specs.declared.Refusal.{Refusal}
 use Rattle.words.specs.declared.Refusal.the-variants.{Reserved}

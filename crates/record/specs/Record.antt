@@ -4,7 +4,7 @@ use mathlib.Core.List.{List, _∷_, []}
 use lib.ListN.{take, drop}
 use lib.Dec.{eqb}
 use Rattle.words.specs.Bits.{bits}
-use Rattle.words.specs.Lent.{Lent}
+use Rattle.lent.specs.Lent.{Lent}
 use Rattle.words.specs.Units.{halfwordBytes, codeBytes, codeWordBytes}
 use Rattle.words.specs.declared.CodeBytes.{CodeBytes}
 use Rattle.words.specs.Answer.{Res, ok, if_then_else_, _>>=_, _>>_}

@@ -11,7 +11,7 @@ use xdata::Head;
 ghost use mathlib.Core.Path.{_≡_};
 ghost use Prim.Native.Nat.{_+_, _-_, _≤_, _<_};
 ghost use lib.Dec.{eqb};
-ghost use Rattle.words.specs.Lent.{lent};
+ghost use Rattle.lent.specs.Lent.{lent};
 ghost use Rattle.words.specs.Answer.{refuse, verdict, if_then_else_};
 ghost use Rattle.record.specs.Record.{shapeAt};
 ghost use Rattle.packed.specs.Packed.{Fit};

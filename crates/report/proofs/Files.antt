@@ -11,7 +11,7 @@ use borrow.Author.Tests.{eq-eqb, eqb-true}
 use borrow.Author.Count.{below-more}
 use native.Mathlib.Nat.{mul-zero, mul-suc}
 use native.Mathlib.Omega.{arith}
-use Rattle.words.specs.Little.{word32, word64}
+use Rattle.lent.specs.Little.{word32, word64}
 use Rattle.report.specs.Report.{same, words32, words64}
 
 -- `same` is equality

@@ -4,7 +4,7 @@ use mathlib.Core.List.{List, [], _∷_}
 use mathlib.Core.Bool.{Bool, true, false, _&&_}
 use lib.ListN.{length, take, drop}
 use lib.Dec.{leb, eqb}
-use Rattle.words.specs.Little.{word32, word64}
+use Rattle.lent.specs.Little.{word32, word64}
 use Rattle.words.specs.declared.Refusal.the-variants.{UnfitReport}
 use Rattle.words.specs.Answer.{Res, ok, _>>=_, _>>_, need}
 use Rattle.machine.specs.declared.Regs.{Regs}

@@ -5,11 +5,11 @@ ghost use lib.ListN.{length, take};
 ghost use Rattle.words.specs.declared.Refusal.the-variants.{UnfitReport};
 ghost use Rattle.report.specs.Report.{same, mark, words32, words64, regsOf};
 ghost use Rattle.report.specs.as_coded.Parts.{parts, noParts, Lie};
+use lent::word32;
+use lent::word64;
 use machine::Regs;
 use words::Refusal;
 use words::Verdict;
-use words::word32;
-use words::word64;
 
 // The largest report.
 pub const REPORT_BYTES: usize = 65536;

@@ -4,7 +4,7 @@ ghost use mathlib.Core.Path.{_≡_};
 ghost use Prim.Native.Nat.{_≤_};
 ghost use lib.ListN.{length};
 ghost use Rattle.streams.specs.Filled.{Gave, Fills, Passes, Follows, Stands};
-use words::word32;
+use lent::word32;
 
 // What one read gave.
 enum Got {

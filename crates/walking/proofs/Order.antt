@@ -12,7 +12,7 @@ use Rattle.frame.specs.Frame.{Inputs}
 use Rattle.walking.specs.declared.Frame.{Frame}
 use Rattle.walking.specs.declared.Stop.the-variants.{End, Full, Refused}
 use Rattle.walking.specs.Walk.{walk, filled}
-use Rattle.words.proofs.Bytes.{bytesOf}
+use Rattle.lent.proofs.Bytes.{bytesOf}
 use Rattle.walking.proofs.Opened.{opened}
 
 abbrev regs : (pc sp lr : ℕ) → Regs

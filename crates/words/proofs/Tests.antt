@@ -1,10 +1,11 @@
 -- Tests joined by `&&`, `||` and `if`, by what their parts say.
 -- Assumes nothing.
-use Prim.Native.Nat.{ℕ}
+use Prim.Native.Nat.{ℕ, _≤_, _<_}
 use mathlib.Core.Path.{_≡_, refl, sym, _∙_}
 use mathlib.Core.Bool.{Bool, true, false, _&&_, _||_}
 use mathlib.Core.Logic.{_⊎_, ⊎-elim}
-use lib.Dec.{T}
+use lib.Dec.{T, leb}
+use borrow.Author.Tests.{le-leb, lt-leb, leb-true, leb-false}
 use native.Mathlib.Omega.{arith}
 use Rattle.words.specs.Answer.{if_then_else_}
 
@@ -54,3 +55,11 @@ T-same true true f g = refl
 T-same true false f g = absurd (f tt)
 T-same false true f g = absurd (g tt)
 T-same false false f g = refl
+
+-- a test is another where its outcome is
+pub leb-same : (a b c d : ℕ) → (a ≤ b → c ≤ d) → (b < a → d < c) → leb a b ≡ leb c d
+leb-same a b c d f g = go (leb a b) refl
+  where
+    go : (t : Bool) → leb a b ≡ t → leb a b ≡ leb c d
+    go true e = e ∙ sym (le-leb c d (f (leb-true a b e)))
+    go false e = e ∙ sym (lt-leb c d (g (leb-false a b e)))

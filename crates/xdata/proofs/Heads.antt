@@ -7,7 +7,7 @@ use lib.Dec.{eqb}
 use native.Mathlib.Omega.{arith}
 use borrow.Author.Tests.{eqb-true, eqb-false, eq-eqb, ne-eqb}
 use Rattle.words.specs.Bits.{bits}
-use Rattle.words.specs.Lent.{Lent, holds, wordAt}
+use Rattle.lent.specs.Lent.{Lent, holds, wordAt}
 use Rattle.words.specs.declared.Refusal.{Refusal}
 use Rattle.words.specs.declared.Refusal.the-variants.{UnfitInput, Reserved, OutsideXdata}
 use Rattle.words.specs.declared.Verdict.the-variants.{Given, Refused}

@@ -8,7 +8,7 @@ use lib.Dec.{eqb}
 use native.Mathlib.Omega.{arith}
 use borrow.Author.Tests.{eq-eqb, ne-eqb}
 use Rattle.words.specs.Bits.{bits}
-use Rattle.words.specs.Little.{word32}
+use Rattle.lent.specs.Little.{word32}
 use Rattle.xdata.specs.as_coded.Scopes.{resZero}
 
 -- the test of Res, one scope after another

@@ -6,7 +6,7 @@ use Prim.Native.Nat.{ℕ, zero, suc, _+_}
 use mathlib.Core.List.{List, _∷_, []}
 use lib.Dec.{eqb}
 use Rattle.words.specs.Bits.{bits}
-use Rattle.words.specs.Lent.{Lent, wordAt}
+use Rattle.lent.specs.Lent.{Lent, wordAt}
 use Rattle.words.specs.Units.{codeBytes}
 use Rattle.words.specs.declared.Refusal.the-variants.{Reserved}
 use Rattle.words.specs.Answer.{Res, ok, need, _>>=_, _>>_}

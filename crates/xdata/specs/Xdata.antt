@@ -9,7 +9,7 @@ use Prim.Native.Nat.{ℕ, _+_, _-_, _*_, _%_, _^_}
 use mathlib.Core.Bool.{Bool, _&&_}
 use lib.Dec.{leb, eqb}
 use Rattle.words.specs.Bits.{bits, bit}
-use Rattle.words.specs.Lent.{Lent, end, holds, wordAt}
+use Rattle.lent.specs.Lent.{Lent, end, holds, wordAt}
 use Rattle.words.specs.Units.{halfwords, halfwordBytes, codeWordBytes}
 use Rattle.words.specs.declared.Refusal.the-variants.{UnfitInput, Reserved, OutsideXdata}
 use Rattle.words.specs.Answer.{Res, ok, need, if_then_else_, verdict, orElse, _>>=_, _>>_}

@@ -10,8 +10,8 @@ use words::bits;
 ghost use mathlib.Core.Path.{_≡_};
 ghost use Prim.Native.Nat.{_+_, _*_, _<_};
 ghost use Rattle.words.specs.Bits.{bits as bitsOf};
-ghost use Rattle.words.specs.Lent.{lent};
-ghost use Rattle.words.specs.Little.{word32};
+ghost use Rattle.lent.specs.Lent.{lent};
+ghost use Rattle.lent.specs.Little.{word32};
 ghost use Rattle.words.specs.Units.{halfwords, halfwordBytes};
 ghost use Rattle.words.specs.Answer.{ok, refuse};
 ghost use Rattle.xdata.specs.Xdata.{fitXdata, X, E, F, scopeCount, codesOffset, handlerOffset, recordBytes, shortHead, headAt, xdataSize, sizeAnswer, handlerAt};
@@ -122,7 +122,7 @@ fn no_head(why: Refusal) -> HeadRead
 fn whole_record(rva: u32, xdata: &[u8], at: u32, h: Head) -> HeadRead
     ensures { λ r. ⌜ r ≡ headRead (wholeRecord (lent rva (now (xdata .entry))) at h) ⌝ }
 {
-    if words::holds(rva, xdata, at as u64, record_bytes(h)) {
+    if lent::holds(rva, xdata, at as u64, record_bytes(h)) {
         return HeadRead {
             verdict: Verdict::Given,
             head: h,
@@ -135,10 +135,10 @@ fn whole_record(rva: u32, xdata: &[u8], at: u32, h: Head) -> HeadRead
 fn long_head(rva: u32, xdata: &[u8], at: u32, word: u32) -> HeadRead
     ensures { λ r. ⌜ r ≡ headRead (longRecord (lent rva (now (xdata .entry))) at word) ⌝ }
 {
-    if !words::holds(rva, xdata, at as u64, 8) {
+    if !lent::holds(rva, xdata, at as u64, 8) {
         return no_head(Refusal::OutsideXdata);
     }
-    let v = words::word_at(rva, xdata, (at as u64) + 4);
+    let v = lent::word_at(rva, xdata, (at as u64) + 4);
     if bits(v, 24, 8) != 0 {
         return no_head(Refusal::Reserved);
     }
@@ -168,10 +168,10 @@ fn short_head(rva: u32, xdata: &[u8], at: u32, word: u32) -> HeadRead
 pub fn head_at(rva: u32, xdata: &[u8], at: u32) -> HeadRead
     ensures { λ r. ⌜ r ≡ headRead (headAt (lent rva (now (xdata .entry))) at) ⌝ }
 {
-    if !words::holds(rva, xdata, at as u64, 4) {
+    if !lent::holds(rva, xdata, at as u64, 4) {
         return no_head(Refusal::OutsideXdata);
     }
-    let word = words::word_at(rva, xdata, at as u64);
+    let word = lent::word_at(rva, xdata, at as u64);
     if bits(word, 18, 2) != 0 {
         return no_head(Refusal::Reserved);
     }
@@ -245,7 +245,7 @@ pub fn word_after(xdata: &[u8], at: usize, k: usize) -> u32
     if (xdata.len() - at) / 4 < k {
         return 0;
     }
-    words::word32(xdata, at + 4 * k)
+    lent::word32(xdata, at + 4 * k)
 }
 
 // Whether n scope words have Res 0.
@@ -267,7 +267,7 @@ pub fn handler_of(rva: u32, xdata: &[u8], at: u32, h: Head) -> u32
     ensures { λ r. ⌜ r ≡ handlerAt (lent rva (now (xdata .entry))) at h ⌝ }
 {
     if has_handler(h) {
-        return words::word_at(rva, xdata, (at as u64) + handler_offset(h));
+        return lent::word_at(rva, xdata, (at as u64) + handler_offset(h));
     }
     0
 }

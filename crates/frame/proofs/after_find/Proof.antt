@@ -1,7 +1,7 @@
 -- By what was found, and then by where SP stands.
 -- Assumes nothing.
 use mathlib.Core.Path.{_≡_, sym, ap, _∙_}
-use Rattle.words.specs.Lent.{lent}
+use Rattle.lent.specs.Lent.{lent}
 use Rattle.frame.specs.Frame.{inputs, unwound}
 use Rattle.frame.proofs.Finding.{found-refused, found-nothing, found-record, after-refused, after-fell, after-none, after-record}
 use borrow.Author.Needs.{needs}

@@ -8,7 +8,7 @@ use borrow.Author.Needs.{needs}
 use borrow.Fn.Kinds.{In}
 use borrow.Fn.PlainCycle.{Measures, is, falls, and}
 use lib.ListN.{length}
-use Rattle.words.specs.Lent.{lent}
+use Rattle.lent.specs.Lent.{lent}
 use Rattle.codes.specs.Code.{takeAt, seen}
 use Rattle.codes.specs.declared.Taken.the-variants.{One}
 use Rattle.unwinding.proofs.Scanning.{take-next, scan-length}

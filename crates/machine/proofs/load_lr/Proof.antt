@@ -2,7 +2,7 @@
 -- Assumes nothing.
 use mathlib.Core.Path.{sym, _∙_}
 use borrow.Author.Needs.{needs}
-use Rattle.words.specs.Lent.{lent}
+use Rattle.lent.specs.Lent.{lent}
 use Rattle.machine.proofs.Answers.{loaded-word, loaded-refused}
 use Rattle.machine.proofs.Popping.{lr-word, lr-refused}
 use Rattle.machine.proofs.load_lr.Statement.{statement}

@@ -5,7 +5,7 @@ use Prim.Native.Nat.{_+_}
 use mathlib.Core.Path.{_≡_, sym, _∙_}
 use native.Mathlib.Omega.{arith}
 use borrow.Author.Needs.{needs}
-use Rattle.words.specs.Lent.{Lent, lent}
+use Rattle.lent.specs.Lent.{Lent, lent}
 use Rattle.words.specs.Answer.{ok}
 use Rattle.machine.specs.Step.{load}
 use Rattle.machine.proofs.Answers.{loaded-word, loaded-refused}

@@ -7,7 +7,7 @@ use mathlib.Core.Path.{_≡_, sym, _∙_}
 use mathlib.Core.List.{List}
 use native.Mathlib.Omega.{arith}
 use borrow.Author.Needs.{needs}
-use Rattle.words.specs.Lent.{Lent, lent}
+use Rattle.lent.specs.Lent.{Lent, lent}
 use Rattle.words.specs.Answer.{ok}
 use Rattle.machine.specs.Step.{load, pop}
 use Rattle.machine.specs.as_coded.Answers.{regs}

@@ -3,7 +3,7 @@
 use Prim.Native.Nat.{ℕ}
 use mathlib.Core.Path.{_≡_, sym, _∙_}
 use borrow.Author.Needs.{needs}
-use Rattle.words.specs.Lent.{Lent, lent}
+use Rattle.lent.specs.Lent.{Lent, lent}
 use Rattle.words.specs.Answer.{ok}
 use Rattle.machine.specs.Step.{stands, effect, step}
 use Rattle.machine.specs.as_coded.Answers.{regs}

@@ -6,7 +6,7 @@ use mathlib.Core.Path.{_≡_, sym, ap, _∙_}
 use mathlib.Core.List.{List}
 use native.Mathlib.Omega.{arith}
 use borrow.Author.Needs.{needs}
-use Rattle.words.specs.Lent.{lent}
+use Rattle.lent.specs.Lent.{lent}
 use Rattle.words.specs.Answer.{ok}
 use Rattle.machine.specs.Step.{load, popD, vpop}
 use Rattle.machine.specs.as_coded.Answers.{regs}

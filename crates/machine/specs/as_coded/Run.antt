@@ -3,7 +3,7 @@
 use Prim.Native.Nat.{ℕ}
 use mathlib.Core.List.{List}
 use lib.ListN.{length}
-use Rattle.words.specs.Lent.{Lent}
+use Rattle.lent.specs.Lent.{Lent}
 use Rattle.words.specs.declared.CodeBytes.{CodeBytes}
 use Rattle.words.specs.declared.Verdict.the-variants.{Given, Refused}
 use Rattle.words.specs.Answer.{Res, ok, refuse, _>>=_, _>>_}

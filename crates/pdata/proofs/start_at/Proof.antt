@@ -4,7 +4,7 @@ use mathlib.Core.Path.{_≡_, ap, _∙_}
 use native.Mathlib.Omega.{arith}
 use borrow.Author.Needs.{needs}
 use Rattle.words.specs.Bits.{even}
-use Rattle.words.specs.Little.{word32}
+use Rattle.lent.specs.Little.{word32}
 use Rattle.pdata.proofs.start_at.Statement.{statement}
 use Rattle.pdata.proofs.start_at.Tie as tie
 

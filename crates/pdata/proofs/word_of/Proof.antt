@@ -2,7 +2,7 @@
 use Prim.Native.Nat.{_+_, _*_}
 use native.Mathlib.Omega.{arith}
 use borrow.Author.Needs.{needs}
-use Rattle.words.proofs.Laws.{word-past}
+use Rattle.lent.proofs.Laws.{word-past}
 use Rattle.pdata.proofs.word_of.Statement.{statement}
 use Rattle.pdata.proofs.word_of.Tie as tie
 

@@ -1,7 +1,7 @@
 -- By Flag. Assumes nothing.
 use mathlib.Core.Path.{sym, ap, _∙_}
 use Rattle.words.specs.Answer.{verdict, _>>=_}
-use Rattle.words.specs.Lent.{lent}
+use Rattle.lent.specs.Lent.{lent}
 use Rattle.unwinding.specs.View.{view}
 use Rattle.codes.specs.Code.{size, codesAt}
 use Rattle.record.proofs.Shapes.{shape-full, shape-packed}

@@ -1,7 +1,7 @@
 -- By the head's verdict; a head that is given stands at or above the .xdata's RVA. Assumes nothing.
 use mathlib.Core.Path.{sym, ap, _∙_}
 use borrow.Author.Needs.{needs}
-use Rattle.words.specs.Lent.{lent}
+use Rattle.lent.specs.Lent.{lent}
 use Rattle.record.specs.as_coded.Plan.{fullAnswer}
 use Rattle.xdata.specs.Xdata.{headAt}
 use Rattle.record.proofs.Shapes.{plan-given, plan-refused, head-above}

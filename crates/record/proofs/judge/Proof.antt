@@ -2,7 +2,7 @@
 use mathlib.Core.Path.{sym, ap, _∙_}
 use native.Mathlib.Omega.{arith}
 use Rattle.words.specs.Answer.{verdict}
-use Rattle.words.specs.Lent.{lent}
+use Rattle.lent.specs.Lent.{lent}
 use Rattle.record.proofs.Shapes.{shape-full, shape-packed, full-told, packed-told}
 use borrow.Author.Needs.{needs}
 use Rattle.record.proofs.judge.Statement.{statement}

@@ -5,8 +5,8 @@ use mathlib.Core.List.{List, _∷_, []}
 use mathlib.Core.Bool.{false}
 use lib.ListN.{take, drop, replicate}
 use lib.Dec.{eqb}
-use Rattle.words.specs.Lent.{Lent}
-use Rattle.words.specs.Little.{word32}
+use Rattle.lent.specs.Lent.{Lent}
+use Rattle.lent.specs.Little.{word32}
 use Rattle.words.specs.Units.{halfwordBytes, codeBytes, codeWordBytes}
 use Rattle.words.specs.declared.CodeBytes.{CodeBytes}
 use Rattle.words.specs.declared.Verdict.{Verdict}

@@ -5,7 +5,7 @@ use mathlib.Core.Path.{_≡_}
 use lib.ListN.{length, getD, length-set}
 use native.Mathlib.Omega.{arith}
 use borrow.Author.Needs.{needs}
-use Rattle.words.specs.Little.{word64}
+use Rattle.lent.specs.Little.{word64}
 use Rattle.report.proofs.Files.{stored, words64-is}
 use Rattle.report.proofs.doubles.Statement.{statement}
 use Rattle.report.proofs.doubles.Tie as tie

@@ -5,7 +5,7 @@ use mathlib.Core.Path.{_≡_}
 use lib.ListN.{length, getD, length-set}
 use native.Mathlib.Omega.{arith}
 use borrow.Author.Needs.{needs}
-use Rattle.words.specs.Little.{word32}
+use Rattle.lent.specs.Little.{word32}
 use Rattle.report.proofs.Files.{stored, words32-is}
 use Rattle.report.proofs.integers.Statement.{statement}
 use Rattle.report.proofs.integers.Tie as tie

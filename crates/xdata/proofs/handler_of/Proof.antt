@@ -2,7 +2,7 @@
 use Prim.Native.Nat.{_+_}
 use mathlib.Core.Path.{sym, ap, _∙_}
 use borrow.Author.Needs.{needs}
-use Rattle.words.specs.Lent.{lent, wordAt}
+use Rattle.lent.specs.Lent.{lent, wordAt}
 use Rattle.xdata.specs.Xdata.{handlerOffset}
 use Rattle.words.proofs.Tests.{if-true, if-false}
 use Rattle.xdata.proofs.handler_of.Statement.{statement}

@@ -2,7 +2,7 @@
 use mathlib.Core.Bool.{true}
 use mathlib.Core.Path.{_≡_, sym, ap, _∙_}
 use borrow.Author.Tests.{not-true, not-false}
-use Rattle.words.specs.Lent.{Lent, lent, holds}
+use Rattle.lent.specs.Lent.{Lent, lent, holds}
 use Rattle.xdata.specs.as_coded.Heads.{headRead}
 use Rattle.xdata.proofs.Heads.{head-outside, head-version, head-long, head-short}
 use Rattle.xdata.proofs.head_at.Statement.{statement}

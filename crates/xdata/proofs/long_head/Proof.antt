@@ -3,7 +3,7 @@ use mathlib.Core.Bool.{true}
 use mathlib.Core.Path.{_≡_, sym, ap, _∙_}
 use borrow.Author.Tests.{not-true, not-false}
 use borrow.Author.Needs.{needs}
-use Rattle.words.specs.Lent.{Lent, lent, holds}
+use Rattle.lent.specs.Lent.{Lent, lent, holds}
 use Rattle.xdata.specs.as_coded.Heads.{headRead}
 use Rattle.xdata.proofs.Heads.{long-outside, long-reserved, long-given}
 use Rattle.xdata.proofs.long_head.Statement.{statement}

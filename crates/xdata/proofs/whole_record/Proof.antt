@@ -1,7 +1,7 @@
 -- The test of the whole record is the definition's. Assumes nothing.
 use mathlib.Core.Path.{sym, ap, _∙_}
 use borrow.Author.Needs.{needs}
-use Rattle.words.specs.Lent.{lent, holds}
+use Rattle.lent.specs.Lent.{lent, holds}
 use Rattle.xdata.specs.as_coded.Heads.{headRead}
 use Rattle.xdata.proofs.Heads.{whole-given, whole-outside}
 use Rattle.xdata.proofs.whole_record.Statement.{statement}

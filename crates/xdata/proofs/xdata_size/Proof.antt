@@ -4,7 +4,7 @@ use mathlib.Core.Path.{sym, ap, _∙_}
 use native.Mathlib.Omega.{arith}
 use borrow.Author.Tests.{not-true, not-false}
 use borrow.Author.Needs.{needs}
-use Rattle.words.specs.Lent.{lent}
+use Rattle.lent.specs.Lent.{lent}
 use Rattle.xdata.specs.Xdata.{sizeAnswer, headAt}
 use Rattle.xdata.proofs.Heads.{read-given, read-refused, head-small, small-record, size-unfit, size-given, size-refused}
 use Rattle.xdata.proofs.xdata_size.Statement.{statement}

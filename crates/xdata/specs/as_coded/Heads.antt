@@ -1,6 +1,6 @@
 -- The head as the code reads it, part by part. That these parts are `headAt` is a law (proofs/Heads.antt).
 use Prim.Native.Nat.{ℕ}
-use Rattle.words.specs.Lent.{Lent, holds}
+use Rattle.lent.specs.Lent.{Lent, holds}
 use Rattle.words.specs.declared.Refusal.the-variants.{OutsideXdata}
 use Rattle.words.specs.Answer.{Res, ok, need, verdict, orElse, _>>=_, _>>_}
 use Rattle.xdata.specs.declared.Head.{Head}

@@ -4,7 +4,7 @@ use mathlib.Core.List.{List}
 use mathlib.Core.Bool.{Bool, true, _&&_}
 use lib.Dec.{eqb}
 use Rattle.words.specs.Bits.{bits}
-use Rattle.words.specs.Little.{word32}
+use Rattle.lent.specs.Little.{word32}
 
 -- of n scope words, the first of which has this number, all have Res 0 (RULES 9.52)
 unfoldable pub resZero : (xdata : List ℕ) → (at number n : ℕ) → Bool

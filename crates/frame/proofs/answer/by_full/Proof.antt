@@ -3,7 +3,7 @@ use Prim.Native.Nat.{_+_, _-_}
 use mathlib.Core.Path.{_≡_, refl, sym, ap, _∙_}
 use native.Mathlib.Omega.{arith}
 use lib.ListN.{take, drop}
-use Rattle.words.specs.Lent.{lent}
+use Rattle.lent.specs.Lent.{lent}
 use Rattle.record.specs.as_coded.Plan.{fullPlan, fullAnswer}
 use Rattle.record.proofs.Shapes.{full-inside}
 use Rattle.place.specs.as_coded.Placed.{fullPlaced}

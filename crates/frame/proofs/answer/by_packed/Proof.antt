@@ -1,6 +1,6 @@
 -- What stands in the packed word's record is the definition's. Assumes nothing.
 use mathlib.Core.Path.{refl, sym, ap, _∙_}
-use Rattle.words.specs.Lent.{lent}
+use Rattle.lent.specs.Lent.{lent}
 use Rattle.record.specs.as_coded.Plan.{packedPlan, packedAnswer}
 use Rattle.frame.specs.Frame.{unwound}
 use Rattle.frame.specs.as_coded.FromPlace.{fromPlaced}

@@ -1,6 +1,6 @@
 -- By the verdict, and by whether the record covers the pc. Assumes nothing.
 use mathlib.Core.Path.{sym, ap, ap₂, _∙_}
-use Rattle.words.specs.Lent.{lent}
+use Rattle.lent.specs.Lent.{lent}
 use Rattle.frame.specs.Frame.{unwound}
 use Rattle.frame.specs.as_coded.FromPlace.{placedFrom}
 use borrow.Author.Needs.{needs}

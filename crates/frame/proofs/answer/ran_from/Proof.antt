@@ -2,7 +2,7 @@
 -- Assumes nothing.
 use mathlib.Core.Path.{_≡_, sym, ap, _∙_}
 use lib.ListN.{length}
-use Rattle.words.specs.Lent.{lent}
+use Rattle.lent.specs.Lent.{lent}
 use Rattle.codes.specs.Code.{scan}
 use Rattle.machine.specs.as_coded.Run.{runAt}
 use Rattle.machine.proofs.Answers.{ran-given, ran-refused}

@@ -1,23 +1,15 @@
 -- Laws of lent bytes and of their words.
 -- Assumes nothing.
 use Prim.Native.Nat.{ℕ, _+_, _≤_, _<_}
-use mathlib.Core.Path.{_≡_, refl, sym, ap, _∙_}
-use mathlib.Core.Bool.{Bool, true, false}
+use mathlib.Core.Path.{_≡_, refl, ap, _∙_}
+use mathlib.Core.Bool.{false}
 use mathlib.Core.List.{List}
 use lib.Dec.{leb}
 use lib.ListN.{length, getD, List·getD-eq-default}
 use native.Mathlib.Omega.{arith}
-use borrow.Author.Tests.{le-leb, lt-leb, leb-true, leb-false}
-use Rattle.words.specs.Little.{word32}
-use Rattle.words.specs.Lent.{lent, holds}
-
--- a test is another where its outcome is
-pub leb-same : (a b c d : ℕ) → (a ≤ b → c ≤ d) → (b < a → d < c) → leb a b ≡ leb c d
-leb-same a b c d f g = go (leb a b) refl
-  where
-    go : (t : Bool) → leb a b ≡ t → leb a b ≡ leb c d
-    go true e = e ∙ sym (le-leb c d (f (leb-true a b e)))
-    go false e = e ∙ sym (lt-leb c d (g (leb-false a b e)))
+use borrow.Author.Tests.{le-leb, lt-leb}
+use Rattle.lent.specs.Little.{word32}
+use Rattle.lent.specs.Lent.{lent, holds}
 
 -- no byte below the base is lent
 pub holds-below : (b : ℕ) (s : List ℕ) (a n : ℕ) → a < b → false ≡ holds (lent b s) a n

@@ -3,13 +3,13 @@
 use native.Mathlib.Omega.{arith}
 use Prim.Native.Nat.{_+_}
 use mathlib.Core.Path.{_≡_}
-use Rattle.words.proofs.Laws.{byte-same}
+use Rattle.lent.proofs.Laws.{byte-same}
 use borrow.Author.Needs.{needs}
-use Rattle.words.proofs.word32_bytewise.Statement.{statement}
-use Rattle.words.proofs.word32_bytewise.Tie as tie
-use Rattle.words.proofs.word32_bytewise.Reads as reads
-use Rattle.words.proofs.word32_bytewise.Lts as lts
-use Rattle.words.proofs.byte_after.Reads as byte-after-reads
+use Rattle.lent.proofs.word32_bytewise.Statement.{statement}
+use Rattle.lent.proofs.word32_bytewise.Tie as tie
+use Rattle.lent.proofs.word32_bytewise.Reads as reads
+use Rattle.lent.proofs.word32_bytewise.Lts as lts
+use Rattle.lent.proofs.byte_after.Reads as byte-after-reads
 
 byte-after-requires : tie.Need-byte-after-requires
 byte-after-requires c κs = search needs

@@ -5,12 +5,13 @@ use Prim.Native.Nat.{_+_, _-_, _≤_}
 use mathlib.Core.Path.{sym, _∙_}
 use lib.ListN.{length}
 use borrow.Author.Tests.{lt-leb}
-use Rattle.words.proofs.Laws.{leb-same, holds-below, holds-above}
+use Rattle.words.proofs.Tests.{leb-same}
+use Rattle.lent.proofs.Laws.{holds-below, holds-above}
 use borrow.Author.Needs.{needs}
-use Rattle.words.proofs.holds.Statement.{statement}
-use Rattle.words.proofs.holds.Tie as tie
-use Rattle.words.proofs.holds.Reads as reads
-use Rattle.words.proofs.holds.Lts as lts
+use Rattle.lent.proofs.holds.Statement.{statement}
+use Rattle.lent.proofs.holds.Tie as tie
+use Rattle.lent.proofs.holds.Reads as reads
+use Rattle.lent.proofs.holds.Lts as lts
 
 returns : tie.Need-returns
 returns c = let a = c .before .args in holds-below (a .base) (a .s .now) (a .at) (a .n) (c .if1 .taken)

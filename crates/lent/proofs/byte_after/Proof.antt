@@ -5,11 +5,11 @@ use Prim.Native.Nat.{_+_}
 use mathlib.Core.Path.{sym}
 use lib.ListN.{List·getD-eq-default}
 use borrow.Author.Needs.{needs}
-use Rattle.words.proofs.byte_after.Statement.{statement}
-use Rattle.words.proofs.byte_after.Tie as tie
-use Rattle.words.proofs.byte_after.Reads as reads
-use Rattle.words.proofs.byte_after.Lts as lts
-use Rattle.words.proofs.byte_in.Reads as byte-in-reads
+use Rattle.lent.proofs.byte_after.Statement.{statement}
+use Rattle.lent.proofs.byte_after.Tie as tie
+use Rattle.lent.proofs.byte_after.Reads as reads
+use Rattle.lent.proofs.byte_after.Lts as lts
+use Rattle.lent.proofs.byte_in.Reads as byte-in-reads
 
 returns : tie.Need-returns
 returns c = let a = c .before .before .args in (sym (List·getD-eq-default (a .s .now) 0 {n = a .at + a .k} (omega arith)), omega arith)

@@ -3,13 +3,13 @@
 use native.Mathlib.Omega.{arith}
 use Prim.Native.Nat.{_+_}
 use mathlib.Core.Path.{_≡_}
-use Rattle.words.proofs.Laws.{byte-same}
+use Rattle.lent.proofs.Laws.{byte-same}
 use borrow.Author.Needs.{needs}
-use Rattle.words.proofs.word32_in.Statement.{statement}
-use Rattle.words.proofs.word32_in.Tie as tie
-use Rattle.words.proofs.word32_in.Reads as reads
-use Rattle.words.proofs.word32_in.Lts as lts
-use Rattle.words.proofs.byte_in.Reads as byte-in-reads
+use Rattle.lent.proofs.word32_in.Statement.{statement}
+use Rattle.lent.proofs.word32_in.Tie as tie
+use Rattle.lent.proofs.word32_in.Reads as reads
+use Rattle.lent.proofs.word32_in.Lts as lts
+use Rattle.lent.proofs.byte_in.Reads as byte-in-reads
 
 byte-in-requires : tie.Need-byte-in-requires
 byte-in-requires c κs = search needs

@@ -4,7 +4,7 @@ use mathlib.Core.List.{List}
 use mathlib.Core.Bool.{Bool, _&&_}
 use lib.ListN.{length}
 use lib.Dec.{leb}
-use Rattle.words.specs.Little.{word32}
+use Rattle.lent.specs.Little.{word32}
 
 pub record Lent : Type 0 where
   pub base : ℕ

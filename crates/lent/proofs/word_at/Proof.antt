@@ -3,13 +3,13 @@
 use native.Mathlib.Omega.{arith}
 use Prim.Native.Nat.{_-_}
 use mathlib.Core.Path.{_≡_, ap, _∙_}
-use Rattle.words.specs.Little.{word32}
+use Rattle.lent.specs.Little.{word32}
 use borrow.Author.Needs.{needs}
-use Rattle.words.proofs.word_at.Statement.{statement}
-use Rattle.words.proofs.word_at.Tie as tie
-use Rattle.words.proofs.word_at.Reads as reads
-use Rattle.words.proofs.word_at.Lts as lts
-use Rattle.words.proofs.word32.Reads as word32-reads
+use Rattle.lent.proofs.word_at.Statement.{statement}
+use Rattle.lent.proofs.word_at.Tie as tie
+use Rattle.lent.proofs.word_at.Reads as reads
+use Rattle.lent.proofs.word_at.Lts as lts
+use Rattle.lent.proofs.word32.Reads as word32-reads
 
 word32-requires : tie.Need-word32-requires
 word32-requires c κs = search needs
