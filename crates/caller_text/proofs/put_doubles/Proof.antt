@@ -29,9 +29,6 @@ mul-value c = omega arith
 array-read-value : tie.Need-array-read-value Inv-loop μ-loop
 array-read-value c = omega arith
 
-put-double-requires : tie.Need-put-double-requires Inv-loop μ-loop
-put-double-requires c κs = search needs
-
 add-i : tie.Need-add-i Inv-loop μ-loop
 add-i c = omega arith
 
@@ -58,7 +55,7 @@ put-doubles-spec =
     loop-holds
     mul-value
     array-read-value
-    put-double-requires
+    (λ c κs. search needs)
     add-i
     loop-less
     loop-again

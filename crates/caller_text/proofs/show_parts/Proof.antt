@@ -7,42 +7,6 @@ use Rattle.text.proofs.Overlaid.{laid-as}
 use Rattle.caller_text.proofs.show_parts.Statement.{statement}
 use Rattle.caller_text.proofs.show_parts.Tie as tie
 
-sub-unwind : tie.Need-sub-unwind
-sub-unwind c = search needs
-
-part-unwind-start : tie.Need-part-unwind-start
-part-unwind-start c = search needs
-
-part-unwind-end : tie.Need-part-unwind-end
-part-unwind-end c = search needs
-
-sub-unwind-2 : tie.Need-sub-unwind-2
-sub-unwind-2 c = search needs
-
-part-unwind-start-2 : tie.Need-part-unwind-start-2
-part-unwind-start-2 c = search needs
-
-part-unwind-end-2 : tie.Need-part-unwind-end-2
-part-unwind-end-2 c = search needs
-
-sub-unwind-3 : tie.Need-sub-unwind-3
-sub-unwind-3 c = search needs
-
-part-unwind-start-3 : tie.Need-part-unwind-start-3
-part-unwind-start-3 c = search needs
-
-part-unwind-end-3 : tie.Need-part-unwind-end-3
-part-unwind-end-3 c = search needs
-
-unwind-requires : tie.Need-unwind-requires
-unwind-requires c κs = search needs
-
-put-unwound-requires : tie.Need-put-unwound-requires
-put-unwound-requires c κs = search needs
-
-same-length : tie.Need-same-length
-same-length c = search needs
-
 returns : tie.Need-returns
 returns c = laid-as (ap unwoundText (c .before .before .before .before .unwind .ensures)) (c .before .before .put-unwound .ensures)
 
@@ -50,16 +14,16 @@ pub show-parts-spec : {M : Type 1} → statement M
 show-parts-spec =
     tie.close
     (tie.spec
-    sub-unwind
-    part-unwind-start
-    part-unwind-end
-    sub-unwind-2
-    part-unwind-start-2
-    part-unwind-end-2
-    sub-unwind-3
-    part-unwind-start-3
-    part-unwind-end-3
-    unwind-requires
-    put-unwound-requires
-    same-length
+    (λ c. search needs)
+    (λ c. search needs)
+    (λ c. search needs)
+    (λ c. search needs)
+    (λ c. search needs)
+    (λ c. search needs)
+    (λ c. search needs)
+    (λ c. search needs)
+    (λ c. search needs)
+    (λ c κs. search needs)
+    (λ c κs. search needs)
+    (λ c. search needs)
     returns)

@@ -13,9 +13,6 @@ use Rattle.codes.proofs.code_bytes.Tie as tie
 abbrev bytesOf : ℕ → ℕ
 bytesOf b = rowOf b .bytes
 
-array-read-result : tie.Need-array-read-result
-array-read-result c = search needs
-
 cast-result : tie.Need-cast-result
 unfolding rows rowIn
 cast-result c = let b = c .args .b in record { fits = tab-has (λ n. n < 2 ^ 64) bytesOf 256 b (c .fits .b .fits) (omega (arith, row-few b .most)) }
@@ -27,4 +24,4 @@ returns c =
     tab-has (λ n. (n ≡ bytesOf b) × (1 ≤ n) × (n ≤ 4)) bytesOf 256 b (c .fits .b .fits) (refl, row-few b .some, row-few b .most)
 
 pub code-bytes-spec : {M : Type 1} → statement M
-code-bytes-spec = tie.close (tie.spec array-read-result cast-result returns)
+code-bytes-spec = tie.close (tie.spec (λ c. search needs) cast-result returns)

@@ -14,9 +14,6 @@ use Rattle.codes.proofs.instruction_size.Tie as tie
 abbrev sizeOf : ℕ → ℕ
 sizeOf b = rowOf b .size .0
 
-array-read-t6 : tie.Need-array-read-t6
-array-read-t6 c = search needs
-
 cast-t7 : tie.Need-cast-t7
 unfolding rows rowIn
 cast-t7 c = let b = c .args .b in record { fits = tab-has (λ n. n < 2 ^ 32) sizeOf 256 b (c .fits .b .fits) (omega (arith, row-few b .small)) }
@@ -28,4 +25,4 @@ returns c =
     tab-has (λ n. (halfwords n ≡ rowOf b .size) × (n ≤ 2)) sizeOf 256 b (c .fits .b .fits) (refl, row-few b .small)
 
 pub instruction-size-spec : {M : Type 1} → statement M
-instruction-size-spec = tie.close (tie.spec array-read-t6 cast-t7 returns)
+instruction-size-spec = tie.close (tie.spec (λ c. search needs) cast-t7 returns)

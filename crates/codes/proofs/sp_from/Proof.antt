@@ -7,9 +7,6 @@ use borrow.Author.Tests.{ne-eqb}
 use Rattle.codes.proofs.sp_from.Statement.{statement}
 use Rattle.codes.proofs.sp_from.Tie as tie
 
-cast-t3 : tie.Need-cast-t3
-cast-t3 c = search needs
-
 -- 15 is no 13, so each key settles the test
 returns : tie.Need-returns
 returns c = ⊎-elim (λ e. rw (e) refl) (λ e. rw (e) refl) (c .match .keys1)
@@ -18,4 +15,4 @@ returns-2 : tie.Need-returns-2
 returns-2 c = rw (ne-eqb _ _ (λ e. c .match .rest .1 (inl e)), ne-eqb _ _ (λ e. c .match .rest .1 (inr e))) refl
 
 pub sp-from-spec : {M : Type 1} → statement M
-sp-from-spec = tie.close (tie.spec cast-t3 returns returns-2)
+sp-from-spec = tie.close (tie.spec (λ c. search needs) returns returns-2)

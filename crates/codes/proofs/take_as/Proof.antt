@@ -8,21 +8,6 @@ use Rattle.codes.specs.declared.Taken.the-variants.{One, Last}
 use Rattle.codes.proofs.take_as.Statement.{statement}
 use Rattle.codes.proofs.take_as.Tie as tie
 
-means-requires : tie.Need-means-requires
-means-requires c κs = search needs
-
-instruction-size-requires : tie.Need-instruction-size-requires
-instruction-size-requires c κs = search needs
-
-enum-known-m : tie.Need-enum-known-m
-enum-known-m c = search needs
-
-enum-told : tie.Need-enum-told
-enum-told c = search needs
-
-enum-told-2 : tie.Need-enum-told-2
-enum-told-2 c = search needs
-
 returns : tie.Need-returns
 returns c =
     let a = c .before .before .before .before .before .args in
@@ -44,11 +29,11 @@ pub take-as-spec : {M : Type 1} → statement M
 take-as-spec =
     tie.close
     (tie.spec
-    means-requires
-    instruction-size-requires
-    enum-known-m
-    enum-told
-    enum-told-2
+    (λ c κs. search needs)
+    (λ c κs. search needs)
+    (λ c. search needs)
+    (λ c. search needs)
+    (λ c. search needs)
     returns
     returns-2
     returns-3)

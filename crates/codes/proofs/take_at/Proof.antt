@@ -15,25 +15,10 @@ use Rattle.codes.proofs.take_at.Tie as tie
 returns : tie.Need-returns
 returns c = let a = c .before .before .args in sym (take-past (a .codes .now) (a .at .0) (c .if1 .taken))
 
-shared-slice-read-b : tie.Need-shared-slice-read-b
-shared-slice-read-b c = search needs
-
-code-bytes-requires : tie.Need-code-bytes-requires
-code-bytes-requires c κs = search needs
-
-sub-if2 : tie.Need-sub-if2
-sub-if2 c = search needs
-
 returns-2 : tie.Need-returns-2
 returns-2 c =
     let a = c .before .before .before .before .before .args in
     sym (take-short (a .codes .now) (a .at .0) (omega arith) (omega (arith, c .before .code-bytes .ensures .0, c .if2 .taken)))
-
-value-requires : tie.Need-value-requires
-value-requires c κs = search needs
-
-add-t6 : tie.Need-add-t6
-add-t6 c = search needs
 
 take-as-requires : tie.Need-take-as-requires
 take-as-requires c κs =
@@ -55,11 +40,11 @@ take-at-spec =
     tie.close
     (tie.spec
     returns
-    shared-slice-read-b
-    code-bytes-requires
-    sub-if2
+    (λ c. search needs)
+    (λ c κs. search needs)
+    (λ c. search needs)
     returns-2
-    value-requires
-    add-t6
+    (λ c κs. search needs)
+    (λ c. search needs)
     take-as-requires
     returns-3)

@@ -5,12 +5,6 @@ use borrow.Author.Tests.{le-leb, lt-leb}
 use Rattle.codes.proofs.vpop.Statement.{statement}
 use Rattle.codes.proofs.vpop.Tie as tie
 
-cast-t5 : tie.Need-cast-t5
-cast-t5 c = search needs
-
-cast-t6 : tie.Need-cast-t6
-cast-t6 c = search needs
-
 returns : tie.Need-returns
 returns c = simp (le-leb _ _ (c .if1 .taken))
 
@@ -18,4 +12,4 @@ returns-2 : tie.Need-returns-2
 returns-2 c = simp (lt-leb _ _ (c .if1 .left))
 
 pub vpop-spec : {M : Type 1} → statement M
-vpop-spec = tie.close (tie.spec cast-t5 cast-t6 returns returns-2)
+vpop-spec = tie.close (tie.spec (λ c. search needs) (λ c. search needs) returns returns-2)

@@ -5,16 +5,10 @@ use Rattle.exports.specs.Numbers.{foundNumbers, foundRefusal}
 use Rattle.exports.proofs.leafbobbin_find.Statement.{statement}
 use Rattle.exports.proofs.leafbobbin_find.Tie as tie
 
-find-requires : tie.Need-find-requires
-find-requires c κs = search needs
-
-tell-requires : tie.Need-tell-requires
-tell-requires c κs = search needs
-
 returns : tie.Need-returns
 returns c =
     let e = c .before .before .find .ensures in
     (c .before .tell .ensures .0 ∙ ap foundRefusal e, c .before .tell .ensures .1 ∙ ap foundNumbers e)
 
 pub leafbobbin-find-spec : {M : Type 1} → statement M
-leafbobbin-find-spec = tie.close (tie.spec find-requires tell-requires returns)
+leafbobbin-find-spec = tie.close (tie.spec (λ c κs. search needs) (λ c κs. search needs) returns)

@@ -5,16 +5,10 @@ use Rattle.words.specs.Refusals.{verdictNumber}
 use Rattle.exports.proofs.leafbobbin_size.Statement.{statement}
 use Rattle.exports.proofs.leafbobbin_size.Tie as tie
 
-xdata-size-requires : tie.Need-xdata-size-requires
-xdata-size-requires c κs = search needs
-
-verdict-number-requires : tie.Need-verdict-number-requires
-verdict-number-requires c κs = search needs
-
 returns : tie.Need-returns
 returns c =
     let e = c .before .xdata-size .ensures in
     (c .verdict-number .ensures ∙ ap (λ s. verdictNumber (s .verdict)) e, ap (λ s. s .bytes) e)
 
 pub leafbobbin-size-spec : {M : Type 1} → statement M
-leafbobbin-size-spec = tie.close (tie.spec xdata-size-requires verdict-number-requires returns)
+leafbobbin-size-spec = tie.close (tie.spec (λ c κs. search needs) (λ c κs. search needs) returns)

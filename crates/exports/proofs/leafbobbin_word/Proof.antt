@@ -6,19 +6,10 @@ use Rattle.packed.specs.Packed.{writeWord, wordAnswer}
 use Rattle.exports.proofs.leafbobbin_word.Statement.{statement}
 use Rattle.exports.proofs.leafbobbin_word.Tie as tie
 
-fields-in-requires : tie.Need-fields-in-requires
-fields-in-requires c κs = search needs
-
-write-word-requires : tie.Need-write-word-requires
-write-word-requires c κs = search needs
-
-verdict-number-requires : tie.Need-verdict-number-requires
-verdict-number-requires c κs = search needs
-
 returns : tie.Need-returns
 returns c =
     let e = c .before .write-word .ensures ∙ ap (λ p. wordAnswer (writeWord p)) (c .before .before .fields-in .ensures) in
     (c .verdict-number .ensures ∙ ap (λ w. verdictNumber (w .verdict)) e, ap (λ w. w .word) e)
 
 pub leafbobbin-word-spec : {M : Type 1} → statement M
-leafbobbin-word-spec = tie.close (tie.spec fields-in-requires write-word-requires verdict-number-requires returns)
+leafbobbin-word-spec = tie.close (tie.spec (λ c κs. search needs) (λ c κs. search needs) (λ c κs. search needs) returns)

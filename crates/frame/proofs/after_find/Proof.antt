@@ -12,24 +12,6 @@ use Rattle.frame.proofs.answer.refused.Reads as refused-reads
 use Rattle.frame.proofs.answer.uncovered.Reads as uncovered-reads
 use Rattle.machine.proofs.stands.Reads as stands-reads
 
-enum-known-found : tie.Need-enum-known-found
-enum-known-found c = search needs
-
-refused-requires : tie.Need-refused-requires
-refused-requires c κs = search needs
-
-enum-told : tie.Need-enum-told
-enum-told c = search needs
-
-cast-stands : tie.Need-cast-stands
-cast-stands c = search needs
-
-stands-requires : tie.Need-stands-requires
-stands-requires c κs = search needs
-
-uncovered-requires : tie.Need-uncovered-requires
-uncovered-requires c κs = search needs
-
 returns : tie.Need-returns
 returns c =
     let z = c .before .before .before .before .before .before .before .before in
@@ -38,21 +20,6 @@ returns c =
     let t = inputs (a .image) p (a .rva) (a .xdata .now) (a .base) (a .stack .now) in
     c .uncovered .ensures ∙ sym (ap (unwound (a .g)) (after-none (a .first) t (a .g) x (found-nothing x (sym q ∙ c .before .before .before .before .enum-told .given .1)) (sym (c .before .before .stands .ensures) ∙ c .before .if1 .taken)))
 
-refused-requires-2 : tie.Need-refused-requires-2
-refused-requires-2 c κs = search needs
-
-enum-known-found-2 : tie.Need-enum-known-found-2
-enum-known-found-2 c = search needs
-
-cast-stands-2 : tie.Need-cast-stands-2
-cast-stands-2 c = search needs
-
-stands-requires-2 : tie.Need-stands-requires-2
-stands-requires-2 c κs = search needs
-
-by-record-requires : tie.Need-by-record-requires
-by-record-requires c κs = search needs
-
 returns-2 : tie.Need-returns-2
 returns-2 c =
     let z = c .before .before .before .before .before .before .before .before .before in
@@ -60,9 +27,6 @@ returns-2 c =
     λ p x q.
     let t = inputs (a .image) p (a .rva) (a .xdata .now) (a .base) (a .stack .now) in
     c .by-record .ensures p ∙ sym (ap (unwound (a .g)) (after-record (a .first) t (a .g) x _ (found-record x _ (sym q ∙ c .before .before .before .before .before .found2 .given .1)) (sym (c .before .before .stands2 .ensures) ∙ c .before .if2 .taken)))
-
-refused-requires-3 : tie.Need-refused-requires-3
-refused-requires-3 c κs = search needs
 
 returns-3 : tie.Need-returns-3
 returns-3 c =
@@ -92,20 +56,20 @@ pub after-find-spec : {M : Type 1} → statement M
 after-find-spec =
     tie.close
     (tie.spec
-    enum-known-found
-    refused-requires
-    enum-told
-    cast-stands
-    stands-requires
-    uncovered-requires
+    (λ c. search needs)
+    (λ c κs. search needs)
+    (λ c. search needs)
+    (λ c. search needs)
+    (λ c κs. search needs)
+    (λ c κs. search needs)
     returns
-    refused-requires-2
-    enum-known-found-2
-    cast-stands-2
-    stands-requires-2
-    by-record-requires
+    (λ c κs. search needs)
+    (λ c. search needs)
+    (λ c. search needs)
+    (λ c κs. search needs)
+    (λ c κs. search needs)
     returns-2
-    refused-requires-3
+    (λ c κs. search needs)
     returns-3
     returns-4
     returns-5)

@@ -8,21 +8,9 @@ use Rattle.frame.proofs.fit_stack.Reads as fit-stack-reads
 use Rattle.pdata.proofs.check.Reads as check-reads
 use Rattle.xdata.proofs.fit.Reads as fit-reads
 
-check-requires : tie.Need-check-requires
-check-requires c κs = search needs
-
-fit-stack-requires : tie.Need-fit-stack-requires
-fit-stack-requires c κs = search needs
-
-fit-requires : tie.Need-fit-requires
-fit-requires c κs = search needs
-
-all-three-requires : tie.Need-all-three-requires
-all-three-requires c κs = search needs
-
 returns : tie.Need-returns
 returns c = simp (c .all-three .ensures, c .before .fit .ensures, c .before .before .fit-stack .ensures, c .before .before .before .check .ensures)
 
 pub check-spec : {M : Type 1} → statement M
 check-spec =
-    tie.close (tie.spec check-requires fit-stack-requires fit-requires all-three-requires returns)
+    tie.close (tie.spec (λ c κs. search needs) (λ c κs. search needs) (λ c κs. search needs) (λ c κs. search needs) returns)

@@ -13,12 +13,6 @@ use Rattle.frame.proofs.after_find.Reads as after-find-reads
 use Rattle.frame.proofs.answer.refused.Reads as refused-reads
 use Rattle.pdata.proofs.find_in.Reads as find-in-reads
 
-find-in-requires : tie.Need-find-in-requires
-find-in-requires c κs = search needs
-
-after-find-requires : tie.Need-after-find-requires
-after-find-requires c κs = search needs
-
 returns : tie.Need-returns
 returns c =
     let f = c .before in
@@ -31,9 +25,6 @@ returns c =
     λ i. record { fit = (f .before .if1 .taken ∙ sym (w .1)) i; sorted = ap (λ x. x .sorted) h i } in
     c .after-find .ensures (a .pdata .now) (find (a .image) (a .pdata .now) (a .g .pc)) (f .find-in .ensures s) ∙ sym (ap (unwound (a .g)) (w .0))
 
-refused-requires : tie.Need-refused-requires
-refused-requires c κs = search needs
-
 returns-2 : tie.Need-returns-2
 returns-2 c =
     let z = c .before .before .before .before .before in
@@ -44,4 +35,4 @@ returns-2 c =
 
 pub frame-of-spec : {M : Type 1} → statement M
 frame-of-spec =
-    tie.close (tie.spec find-in-requires after-find-requires returns refused-requires returns-2)
+    tie.close (tie.spec (λ c κs. search needs) (λ c κs. search needs) returns (λ c κs. search needs) returns-2)

@@ -6,14 +6,8 @@ use Rattle.frame.proofs.unwind.Tie as tie
 use Rattle.frame.proofs.check.Reads as check-reads
 use Rattle.frame.proofs.frame_of.Reads as frame-of-reads
 
-check-requires : tie.Need-check-requires
-check-requires c κs = search needs
-
-frame-of-requires : tie.Need-frame-of-requires
-frame-of-requires c κs = search needs
-
 returns : tie.Need-returns
 returns c = c .frame-of .ensures (c .before .check .ensures)
 
 pub unwind-spec : {M : Type 1} → statement M
-unwind-spec = tie.close (tie.spec check-requires frame-of-requires returns)
+unwind-spec = tie.close (tie.spec (λ c κs. search needs) (λ c κs. search needs) returns)

@@ -14,21 +14,9 @@ use Rattle.lent.proofs.byte_in.Reads as byte-in-reads
 returns : tie.Need-returns
 returns c = let a = c .before .before .args in (sym (List·getD-eq-default (a .s .now) 0 {n = a .at + a .k} (omega arith)), omega arith)
 
-sub-if2 : tie.Need-sub-if2
-sub-if2 c = search needs
-
 returns-2 : tie.Need-returns-2
 returns-2 c = let a = c .before .before .before .args in (sym (List·getD-eq-default (a .s .now) 0 {n = a .at + a .k} (omega arith)), omega arith)
 
-add-byte-in : tie.Need-add-byte-in
-add-byte-in c = search needs
-
-byte-in-requires : tie.Need-byte-in-requires
-byte-in-requires c κs = search needs
-
-returns-3 : tie.Need-returns-3
-returns-3 c = search needs
-
 pub byte-after-spec : {M : Type 1} → statement M
 byte-after-spec =
-    tie.close (tie.spec returns sub-if2 returns-2 add-byte-in byte-in-requires returns-3)
+    tie.close (tie.spec returns (λ c. search needs) returns-2 (λ c. search needs) (λ c κs. search needs) (λ c. search needs))

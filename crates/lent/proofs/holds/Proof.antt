@@ -19,11 +19,8 @@ returns c = let a = c .before .args in holds-below (a .base) (a .s .now) (a .at)
 returns-2 : tie.Need-returns-2
 returns-2 c = let a = c .before .before .args in let b : a .base ≤ a .at = c .before .if1 .left in sym (lt-leb (a .at + a .n) (a .base + length (a .s .now)) (omega arith)) ∙ holds-above (a .base) (a .s .now) (a .at) (a .n) b
 
-sub-result : tie.Need-sub-result
-sub-result c = search needs
-
 returns-3 : tie.Need-returns-3
 returns-3 c = let a = c .before .before .args in let b : a .base ≤ a .at = c .before .if1 .left in leb-same (a .n) (length (a .s .now) - (a .at - a .base)) (a .at + a .n) (a .base + length (a .s .now)) (λ h. omega arith) (λ h. omega arith) ∙ holds-above (a .base) (a .s .now) (a .at) (a .n) b
 
 pub holds-spec : {M : Type 1} → statement M
-holds-spec = tie.close (tie.spec returns returns-2 sub-result returns-3)
+holds-spec = tie.close (tie.spec returns returns-2 (λ c. search needs) returns-3)

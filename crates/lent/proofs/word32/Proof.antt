@@ -11,11 +11,8 @@ use Rattle.lent.proofs.word32.Reads as reads
 use Rattle.lent.proofs.word32.Lts as lts
 use Rattle.lent.proofs.word32_after.Reads as word32-after-reads
 
-word32-after-requires : tie.Need-word32-after-requires
-word32-after-requires c κs = search needs
-
 returns : tie.Need-returns
 returns c = let a = c .before .before .args in let z : a .at + 0 ≡ a .at = omega arith in c .word32-after .ensures ∙ ap (word32 (a .s .now)) z
 
 pub word32-spec : {M : Type 1} → statement M
-word32-spec = tie.close (tie.spec word32-after-requires returns)
+word32-spec = tie.close (tie.spec (λ c κs. search needs) returns)

@@ -29,9 +29,6 @@ mul-frame c = omega arith
 array-copy-out-frame : tie.Need-array-copy-out-frame Inv-loop μ-loop
 array-copy-out-frame c = omega arith
 
-put-frame-requires : tie.Need-put-frame-requires Inv-loop μ-loop
-put-frame-requires c κs = search needs
-
 add-i : tie.Need-add-i Inv-loop μ-loop
 add-i c = omega arith
 
@@ -59,7 +56,7 @@ put-frames-spec =
     loop-holds
     mul-frame
     array-copy-out-frame
-    put-frame-requires
+    (λ c κs. search needs)
     add-i
     loop-less
     loop-again

@@ -12,57 +12,6 @@ use Rattle.machine.proofs.reg.Reads as reg-reads
 use Rattle.machine.proofs.vpop.Reads as vpop-reads
 use Rattle.words.proofs.stack_bytes.Reads as stack-bytes-reads
 
-enum-known-undo : tie.Need-enum-known-undo
-enum-known-undo c = search needs
-
-stack-bytes-requires : tie.Need-stack-bytes-requires
-stack-bytes-requires c κs = search needs
-
-add-moved : tie.Need-add-moved
-add-moved c = search needs
-
-moved-requires : tie.Need-moved-requires
-moved-requires c κs = search needs
-
-enum-known-undo-2 : tie.Need-enum-known-undo-2
-enum-known-undo-2 c = search needs
-
-pop-requires : tie.Need-pop-requires
-pop-requires c κs = search needs
-
-enum-known-undo-3 : tie.Need-enum-known-undo-3
-enum-known-undo-3 c = search needs
-
-cast-reg : tie.Need-cast-reg
-cast-reg c = search needs
-
-reg-requires : tie.Need-reg-requires
-reg-requires c κs = search needs
-
-cast-moved : tie.Need-cast-moved
-cast-moved c = search needs
-
-moved-requires-2 : tie.Need-moved-requires-2
-moved-requires-2 c κs = search needs
-
-enum-known-undo-4 : tie.Need-enum-known-undo-4
-enum-known-undo-4 c = search needs
-
-vpop-requires : tie.Need-vpop-requires
-vpop-requires c κs = search needs
-
-enum-known-undo-5 : tie.Need-enum-known-undo-5
-enum-known-undo-5 c = search needs
-
-load-lr-requires : tie.Need-load-lr-requires
-load-lr-requires c κs = search needs
-
-enum-told : tie.Need-enum-told
-enum-told c = search needs
-
-moved-requires-3 : tie.Need-moved-requires-3
-moved-requires-3 c κs = search needs
-
 returns : tie.Need-returns
 returns c pc = simp (c .before .before .before .undo .given .1, c .moved .ensures, c .before .stack-bytes .ensures .0)
 
@@ -85,23 +34,23 @@ pub effect-spec : {M : Type 1} → statement M
 effect-spec =
     tie.close
     (tie.spec
-    enum-known-undo
-    stack-bytes-requires
-    add-moved
-    moved-requires
-    enum-known-undo-2
-    pop-requires
-    enum-known-undo-3
-    cast-reg
-    reg-requires
-    cast-moved
-    moved-requires-2
-    enum-known-undo-4
-    vpop-requires
-    enum-known-undo-5
-    load-lr-requires
-    enum-told
-    moved-requires-3
+    (λ c. search needs)
+    (λ c κs. search needs)
+    (λ c. search needs)
+    (λ c κs. search needs)
+    (λ c. search needs)
+    (λ c κs. search needs)
+    (λ c. search needs)
+    (λ c. search needs)
+    (λ c κs. search needs)
+    (λ c. search needs)
+    (λ c κs. search needs)
+    (λ c. search needs)
+    (λ c κs. search needs)
+    (λ c. search needs)
+    (λ c κs. search needs)
+    (λ c. search needs)
+    (λ c κs. search needs)
     returns
     returns-2
     returns-3

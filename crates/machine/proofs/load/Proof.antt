@@ -5,12 +5,6 @@ use Rattle.machine.specs.Step.{load}
 use Rattle.machine.proofs.load.Statement.{statement}
 use Rattle.machine.proofs.load.Tie as tie
 
-holds-requires : tie.Need-holds-requires
-holds-requires c κs = search needs
-
-word-at-requires : tie.Need-word-at-requires
-word-at-requires c κs = search needs
-
 returns : tie.Need-returns
 unfolding load
 returns c = simp (← c .before .before .holds .ensures, c .before .if1 .taken, c .word-at .ensures)
@@ -20,4 +14,4 @@ unfolding load
 returns-2 c = simp (← c .before .holds .ensures, c .if1 .left)
 
 pub load-spec : {M : Type 1} → statement M
-load-spec = tie.close (tie.spec holds-requires word-at-requires returns returns-2)
+load-spec = tie.close (tie.spec (λ c κs. search needs) (λ c κs. search needs) returns returns-2)

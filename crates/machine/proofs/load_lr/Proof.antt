@@ -8,24 +8,6 @@ use Rattle.machine.proofs.Popping.{lr-word, lr-refused}
 use Rattle.machine.proofs.load_lr.Statement.{statement}
 use Rattle.machine.proofs.load_lr.Tie as tie
 
-load-requires : tie.Need-load-requires
-load-requires c κs = search needs
-
-enum-known-w : tie.Need-enum-known-w
-enum-known-w c = search needs
-
-stack-bytes-requires : tie.Need-stack-bytes-requires
-stack-bytes-requires c κs = search needs
-
-add-past : tie.Need-add-past
-add-past c = search needs
-
-set-reg-requires : tie.Need-set-reg-requires
-set-reg-requires c κs = search needs
-
-enum-known-why : tie.Need-enum-known-why
-enum-known-why c = search needs
-
 returns : tie.Need-returns
 returns c pc d =
     let b = c .before .before in
@@ -46,11 +28,11 @@ pub load-lr-spec : {M : Type 1} → statement M
 load-lr-spec =
     tie.close
     (tie.spec
-    load-requires
-    enum-known-w
-    stack-bytes-requires
-    add-past
-    set-reg-requires
-    enum-known-why
+    (λ c κs. search needs)
+    (λ c. search needs)
+    (λ c κs. search needs)
+    (λ c. search needs)
+    (λ c κs. search needs)
+    (λ c. search needs)
     returns
     returns-2)

@@ -19,26 +19,8 @@ stack-of c = lent (c .before .before .args .base) (c .before .before .args .stac
 lower : (c : tie.After-low) → load (stack-of (c .before .before)) (c .before .before .before .before .args .at) ≡ ok (c .low .given .0 .0)
 lower c = loaded-word _ _ (sym (c .before .before .load .ensures) ∙ c .low .given .1)
 
-load-requires : tie.Need-load-requires
-load-requires c κs = search needs
-
-enum-known-low : tie.Need-enum-known-low
-enum-known-low c = search needs
-
 add-load : tie.Need-add-load
 add-load c = omega (arith, load-inside _ _ _ (lower (c .before)))
-
-load-requires-2 : tie.Need-load-requires-2
-load-requires-2 c κs = search needs
-
-enum-known-high : tie.Need-enum-known-high
-enum-known-high c = search needs
-
-enum-known-why : tie.Need-enum-known-why
-enum-known-why c = search needs
-
-enum-known-why-2 : tie.Need-enum-known-why-2
-enum-known-why-2 c = search needs
 
 returns : tie.Need-returns
 returns c =
@@ -63,13 +45,13 @@ pub load-two-spec : {M : Type 1} → statement M
 load-two-spec =
     tie.close
     (tie.spec
-    load-requires
-    enum-known-low
+    (λ c κs. search needs)
+    (λ c. search needs)
     add-load
-    load-requires-2
-    enum-known-high
-    enum-known-why
-    enum-known-why-2
+    (λ c κs. search needs)
+    (λ c. search needs)
+    (λ c. search needs)
+    (λ c. search needs)
     returns
     returns-2
     returns-3)

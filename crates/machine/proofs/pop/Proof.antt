@@ -49,15 +49,6 @@ loop-holds c = (search needs, λ pc d. pop-none _ _ _)
 has-requires : tie.Need-has-requires Inv-loop μ-loop
 has-requires c κs = omega arith
 
-load-requires : tie.Need-load-requires Inv-loop μ-loop
-load-requires c κs = search needs
-
-enum-known-w : tie.Need-enum-known-w Inv-loop μ-loop
-enum-known-w c = search needs
-
-set-reg-requires : tie.Need-set-reg-requires Inv-loop μ-loop
-set-reg-requires c κs = search needs
-
 add-at : tie.Need-add-at Inv-loop μ-loop
 add-at c =
     let w = c .before .before .before in
@@ -66,9 +57,6 @@ add-at c =
     let word = loaded-word (load (stack-of h) (h .before .before .loop .at)) _ (sym (l .load .ensures) ∙ w .w .given .1) in
     let start = h .before .before .before .before in
     omega (arith, load-inside _ _ _ word, start .fits, start .good)
-
-enum-known-why : tie.Need-enum-known-why Inv-loop μ-loop
-enum-known-why c = search needs
 
 returns : tie.Need-returns Inv-loop μ-loop
 returns c pc d =
@@ -114,11 +102,11 @@ pop-spec =
     μ-loop
     loop-holds
     has-requires
-    load-requires
-    enum-known-w
-    set-reg-requires
+    (λ c κs. search needs)
+    (λ c. search needs)
+    (λ c κs. search needs)
     add-at
-    enum-known-why
+    (λ c. search needs)
     returns
     add-x
     loop-less

@@ -9,12 +9,6 @@ use Rattle.machine.proofs.reg.Tie as tie
 returns : tie.Need-returns
 returns c = simp (eq-eqb _ _ (c .if1 .taken))
 
-mul-result : tie.Need-mul-result
-mul-result c = search needs
-
-shared-slice-read-result : tie.Need-shared-slice-read-result
-shared-slice-read-result c = search needs
-
 returns-2 : tie.Need-returns-2
 returns-2 c = simp (ne-eqb _ _ (c .before .before .if1 .left))
 
@@ -24,4 +18,4 @@ returns-3 c =
     simp (ne-eqb _ _ (c .before .if1 .left), List·getD-eq-default (a .r .now) 0 {n = a .x} (c .if2 .left))
 
 pub reg-spec : {M : Type 1} → statement M
-reg-spec = tie.close (tie.spec returns mul-result shared-slice-read-result returns-2 returns-3)
+reg-spec = tie.close (tie.spec returns (λ c. search needs) (λ c. search needs) returns-2 returns-3)

@@ -7,24 +7,12 @@ use borrow.Author.Needs.{needs}
 use Rattle.machine.proofs.run.Statement.{statement}
 use Rattle.machine.proofs.run.Tie as tie
 
-run-on-requires : tie.Need-run-on-requires
-run-on-requires c κs = search needs
-
-enum-known-verdict : tie.Need-enum-known-verdict
-enum-known-verdict c = search needs
-
-stopped-requires : tie.Need-stopped-requires
-stopped-requires c κs = search needs
-
 returns : tie.Need-returns
 returns c =
     let u = c .before .before .before .before in
     let a = u .before .before .before .before .before .before .before .args in
     c .stopped .ensures
     ∙ sym (ap (ran (a .g) _) (came-refused _ _ _ _ (u .run-on .ensures .0 (a .g .pc)) (c .before .before .verdict .given .1)))
-
-enum-told : tie.Need-enum-told
-enum-told c = search needs
 
 returns-2 : tie.Need-returns-2
 returns-2 c =
@@ -33,4 +21,4 @@ returns-2 c =
     came-ran (a .g) _ _ _ _ _ (u .run-on .ensures .0 (a .g .pc)) (u .run-on .ensures .1) (c .enum-told .given .1)
 
 pub run-spec : {M : Type 1} → statement M
-run-spec = tie.close (tie.spec run-on-requires enum-known-verdict stopped-requires returns enum-told returns-2)
+run-spec = tie.close (tie.spec (λ c κs. search needs) (λ c. search needs) (λ c κs. search needs) returns (λ c. search needs) returns-2)

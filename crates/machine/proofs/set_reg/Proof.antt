@@ -12,12 +12,6 @@ use Rattle.machine.proofs.set_reg.Tie as tie
 stored : (c : tie.Joined1) → c .if1 .r ≡ set (c .before .args .r .now) (c .before .args .x) (c .before .args .w)
 stored c = ⊎-elim (λ w. w .1) (λ w. w .1 ∙ sym (set-out _ _ _ (w .0 .left))) (c .if1 .came)
 
-mul-r : tie.Need-mul-r
-mul-r c = search needs
-
-slice-write-r : tie.Need-slice-write-r
-slice-write-r c = search needs
-
 same-length : tie.Need-same-length
 same-length c = ap length (stored (c .before)) ∙ simp length-set
 
@@ -31,4 +25,4 @@ returns-2 : tie.Need-returns-2
 returns-2 c = (simp (ne-eqb _ _ (c .if2 .left)), stored (c .before))
 
 pub set-reg-spec : {M : Type 1} → statement M
-set-reg-spec = tie.close (tie.spec mul-r slice-write-r same-length returns same-length-2 returns-2)
+set-reg-spec = tie.close (tie.spec (λ c. search needs) (λ c. search needs) same-length returns same-length-2 returns-2)

@@ -27,23 +27,11 @@ done :
     → (let e = c .before .before in effect (stack-of e) (e .before .before .before .before .args .code .undo) (given e pc) ≡ ok (left e pc))
 done c pc = let e = c .before .before in came-given _ (left e pc) _ (e .effect .ensures pc) (c .enum-told .given .1)
 
-effect-requires : tie.Need-effect-requires
-effect-requires c κs = search needs
-
-enum-known-verdict : tie.Need-enum-known-verdict
-enum-known-verdict c = search needs
-
 returns : tie.Need-returns
 unfolding step
 returns c pc =
     let e = c .before .before .before in
     simp (came-refused _ (left e pc) _ _ (e .effect .ensures pc) (c .before .verdict .given .1))
-
-enum-told : tie.Need-enum-told
-enum-told c = search needs
-
-stands-requires : tie.Need-stands-requires
-stands-requires c κs = search needs
 
 cast-stood : tie.Need-cast-stood
 cast-stood c =
@@ -62,11 +50,11 @@ pub undo-one-spec : {M : Type 1} → statement M
 undo-one-spec =
     tie.close
     (tie.spec
-    effect-requires
-    enum-known-verdict
+    (λ c κs. search needs)
+    (λ c. search needs)
     returns
-    enum-told
-    stands-requires
+    (λ c. search needs)
+    (λ c κs. search needs)
     cast-stood
     returns-2
     returns-3)

@@ -44,18 +44,6 @@ loop-holds c =
     let none : 0 ≡ a .s - a .s = omega arith in
     (omega arith, omega arith, λ r pc. rw none at (vpop-none (lent (a .base) (a .stack .now)) (a .s) (regs r (a .sp) (a .lr) pc (a .d .now))))
 
-load-two-requires : tie.Need-load-two-requires Inv-loop μ-loop
-load-two-requires c κs = search needs
-
-enum-known-low : tie.Need-enum-known-low Inv-loop μ-loop
-enum-known-low c = search needs
-
-set-d-requires : tie.Need-set-d-requires Inv-loop μ-loop
-set-d-requires c κs = search needs
-
-enum-known-why : tie.Need-enum-known-why Inv-loop μ-loop
-enum-known-why c = search needs
-
 returns : tie.Need-returns Inv-loop μ-loop
 returns c r pc =
     let t = c .before .before .before in
@@ -112,10 +100,10 @@ vpop-spec =
     μ-loop
     add-x-end
     loop-holds
-    load-two-requires
-    enum-known-low
-    set-d-requires
-    enum-known-why
+    (λ c κs. search needs)
+    (λ c. search needs)
+    (λ c κs. search needs)
+    (λ c. search needs)
     returns
     add-at
     add-x

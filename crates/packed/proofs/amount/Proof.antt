@@ -14,9 +14,6 @@ folded-requires c κs = tt
 bits-requires : tie.Need-bits-requires
 bits-requires c κs = tt
 
-add-t5 : tie.Need-add-t5
-add-t5 c = search needs
-
 returns : tie.Need-returns
 returns c =
     let p = c .before .before .before .args .p in
@@ -29,4 +26,4 @@ returns-2 c =
     ap stackWords (if-false (p .adjust % 4 + 1) _ (sym (c .before .folded .ensures) ∙ c .if1 .left))
 
 pub amount-spec : {M : Type 1} → statement M
-amount-spec = tie.close (tie.spec folded-requires bits-requires add-t5 returns returns-2)
+amount-spec = tie.close (tie.spec folded-requires bits-requires (λ c. search needs) returns returns-2)

@@ -8,15 +8,6 @@ use Rattle.packed.proofs.Registers.{to-r3, range-r3}
 use Rattle.packed.proofs.homed.Statement.{statement}
 use Rattle.packed.proofs.homed.Tie as tie
 
-cast-result : tie.Need-cast-result
-cast-result c = search needs
-
-mul-result : tie.Need-mul-result
-mul-result c = search needs
-
-array-read-result : tie.Need-array-read-result
-array-read-result c = search needs
-
 returns : tie.Need-returns
 returns c =
     let a = c .before .args in
@@ -24,8 +15,5 @@ returns c =
     let e = to-r3 k (omega arith) in
     (e ∙ if-true _ 0 (c .if1 .taken), omega (arith, e, range-r3 k))
 
-returns-2 : tie.Need-returns-2
-returns-2 c = search needs
-
 pub homed-spec : {M : Type 1} → statement M
-homed-spec = tie.close (tie.spec cast-result mul-result array-read-result returns returns-2)
+homed-spec = tie.close (tie.spec (λ c. search needs) (λ c. search needs) (λ c. search needs) returns (λ c. search needs))

@@ -6,9 +6,6 @@ use Rattle.packed.proofs.Words.{fields-fit}
 use Rattle.packed.proofs.integers.Statement.{statement}
 use Rattle.packed.proofs.integers.Tie as tie
 
-fields-requires : tie.Need-fields-requires
-fields-requires c κs = search needs
-
 list-requires : tie.Need-list-requires
 list-requires c κs = rw (c .fields .ensures) (fields-fit (c .before .args .word))
 
@@ -18,4 +15,4 @@ returns c =
     (c .list .ensures .0 ∙ ap (λ p. integersOf p (a .fold)) (c .before .fields .ensures), c .list .ensures .1)
 
 pub integers-spec : {M : Type 1} → statement M
-integers-spec = tie.close (tie.spec fields-requires list-requires returns)
+integers-spec = tie.close (tie.spec (λ c κs. search needs) list-requires returns)

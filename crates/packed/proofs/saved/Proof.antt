@@ -10,9 +10,6 @@ use Rattle.words.proofs.Tests.{if-true, if-false}
 use Rattle.packed.proofs.saved.Statement.{statement}
 use Rattle.packed.proofs.saved.Tie as tie
 
-add-from-r4 : tie.Need-add-from-r4
-add-from-r4 c = search needs
-
 from-r4-requires : tie.Need-from-r4-requires
 from-r4-requires c κs = tt
 
@@ -27,4 +24,4 @@ returns-2 c =
     (if-false (range 4 (4 + p .reg)) 0 (ne-eqb _ _ (c .if1 .left)), omega arith)
 
 pub saved-spec : {M : Type 1} → statement M
-saved-spec = tie.close (tie.spec add-from-r4 from-r4-requires returns returns-2)
+saved-spec = tie.close (tie.spec (λ c. search needs) from-r4-requires returns returns-2)

@@ -15,9 +15,6 @@ returns c =
     let a = c .before .args in
     sym (puts-unless (a .o) (not (a .fold)) (upCode (amount (a .p))) (rw (c .if1 .taken) refl))
 
-amount-requires : tie.Need-amount-requires
-amount-requires c κs = search needs
-
 up-requires : tie.Need-up-requires
 up-requires c κs = rw (c .amount .ensures) (amount-small (c .before .before .args .p) (c .before .before .pre))
 
@@ -29,4 +26,4 @@ returns-2 c =
     ∙ sym (puts-when (a .o) (not (a .fold)) (upCode (amount (a .p))) (rw (c .before .before .if1 .left) refl))
 
 pub adjust-spec : {M : Type 1} → statement M
-adjust-spec = tie.close (tie.spec returns amount-requires up-requires returns-2)
+adjust-spec = tie.close (tie.spec returns (λ c κs. search needs) up-requires returns-2)

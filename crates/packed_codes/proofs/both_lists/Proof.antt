@@ -5,12 +5,6 @@ use Rattle.packed_codes.proofs.Written.{second-longer, codes-written}
 use Rattle.packed_codes.proofs.both_lists.Statement.{statement}
 use Rattle.packed_codes.proofs.both_lists.Tie as tie
 
-first-list-requires : tie.Need-first-list-requires
-first-list-requires c κs = search needs
-
-second-list-requires : tie.Need-second-list-requires
-second-list-requires c κs = search needs
-
 sub-t9 : tie.Need-sub-t9
 sub-t9 c =
     let a = c .before .before .before .before .before .args in
@@ -22,4 +16,4 @@ returns c =
     codes-written (fields (a .word)) (c .before .before .before .before .first-list .result) (c .before .before .before .second-list .result) (c .before .before .before .before .first-list .ensures) (c .before .before .before .second-list .ensures)
 
 pub both-lists-spec : {M : Type 1} → statement M
-both-lists-spec = tie.close (tie.spec first-list-requires second-list-requires sub-t9 returns)
+both-lists-spec = tie.close (tie.spec (λ c κs. search needs) (λ c κs. search needs) sub-t9 returns)

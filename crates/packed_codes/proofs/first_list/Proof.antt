@@ -8,33 +8,15 @@ use Rattle.packed_codes.proofs.Pieces.{first-written}
 use Rattle.packed_codes.proofs.first_list.Statement.{statement}
 use Rattle.packed_codes.proofs.first_list.Tie as tie
 
-fields-requires : tie.Need-fields-requires
-fields-requires c κs = search needs
-
-pf-requires : tie.Need-pf-requires
-pf-requires c κs = search needs
-
-integers-requires : tie.Need-integers-requires
-integers-requires c κs = search needs
-
 adjust-requires : tie.Need-adjust-requires
 adjust-requires c κs = rw (c .before .before .fields .ensures) (fields-fit (c .before .before .before .args .word))
 
 vpop-requires : tie.Need-vpop-requires
 vpop-requires c κs = rw (c .before .before .before .fields .ensures) (fields-fit (c .before .before .before .before .args .word))
 
-put-if-requires : tie.Need-put-if-requires
-put-if-requires c κs = search needs
-
 pop-requires : tie.Need-pop-requires
 pop-requires c κs =
     (c .before .before .before .integers .ensures .1, rw (c .before .before .before .before .before .fields .ensures) (fields-fit (c .before .before .before .before .before .before .args .word) .l), λ h. ltb-true _ _ h)
-
-put-if-requires-2 : tie.Need-put-if-requires-2
-put-if-requires-2 c κs = search needs
-
-put-requires : tie.Need-put-requires
-put-requires c κs = search needs
 
 returns : tie.Need-returns
 returns c =
@@ -45,13 +27,13 @@ pub first-list-spec : {M : Type 1} → statement M
 first-list-spec =
     tie.close
     (tie.spec
-    fields-requires
-    pf-requires
-    integers-requires
+    (λ c κs. search needs)
+    (λ c κs. search needs)
+    (λ c κs. search needs)
     adjust-requires
     vpop-requires
-    put-if-requires
+    (λ c κs. search needs)
     pop-requires
-    put-if-requires-2
-    put-requires
+    (λ c κs. search needs)
+    (λ c κs. search needs)
     returns)

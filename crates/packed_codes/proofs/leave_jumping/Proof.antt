@@ -12,25 +12,10 @@ use Rattle.packed_codes.proofs.leave_jumping.Tie as tie
 
 -- The pop, 04 by H, then the end code of Ret. Assumes nothing.
 
-narrow-requires : tie.Need-narrow-requires
-narrow-requires c κs = search needs
-
 pop-requires : tie.Need-pop-requires
 pop-requires c κs =
     let a = c .before .args in
     (c .before .pre .1, c .before .pre .0 .l, λ h. narrow-low (a .registers) (a .p .l) (sym (c .narrow .ensures) ∙ h))
-
-put-if-requires : tie.Need-put-if-requires
-put-if-requires c κs = search needs
-
-add-put : tie.Need-add-put
-add-put c = search needs
-
-cast-put : tie.Need-cast-put
-cast-put c = search needs
-
-put-requires : tie.Need-put-requires
-put-requires c κs = search needs
 
 returns : tie.Need-returns
 returns c =
@@ -40,4 +25,4 @@ returns c =
 pub leave-jumping-spec : {M : Type 1} → statement M
 leave-jumping-spec =
     tie.close
-    (tie.spec narrow-requires pop-requires put-if-requires add-put cast-put put-requires returns)
+    (tie.spec (λ c κs. search needs) pop-requires (λ c κs. search needs) (λ c. search needs) (λ c. search needs) (λ c κs. search needs) returns)

@@ -8,9 +8,6 @@ use Rattle.packed_codes.proofs.Pieces.{pop-empty, pop-some}
 use Rattle.packed_codes.proofs.pop.Statement.{statement}
 use Rattle.packed_codes.proofs.pop.Tie as tie
 
-add-if1 : tie.Need-add-if1
-add-if1 c = search needs
-
 returns : tie.Need-returns
 returns c =
     let a = c .before .args in
@@ -26,9 +23,6 @@ returns-2 c =
     ∙ ap (λ n. puts (a .o) (popSized n (a .list) (a .lr))) (sym (c .before .if2 .taken))
     ∙ ap (puts (a .o)) (sym (pop-some (a .narrow) (a .list) (a .lr) (c .before .before .if1 .left)))
 
-pop32-requires : tie.Need-pop32-requires
-pop32-requires c κs = search needs
-
 returns-3 : tie.Need-returns-3
 returns-3 c =
     let a = c .before .before .before .args in
@@ -37,4 +31,4 @@ returns-3 c =
     ∙ ap (puts (a .o)) (sym (pop-some (a .narrow) (a .list) (a .lr) (c .before .before .if1 .left)))
 
 pub pop-spec : {M : Type 1} → statement M
-pop-spec = tie.close (tie.spec add-if1 returns pop16-requires returns-2 pop32-requires returns-3)
+pop-spec = tie.close (tie.spec (λ c. search needs) returns pop16-requires returns-2 (λ c κs. search needs) returns-3)

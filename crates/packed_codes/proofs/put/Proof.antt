@@ -10,16 +10,10 @@ returns c =
     let a = c .before .args in
     sym (put-full (a .o) (a .b) (c .if1 .taken))
 
-array-write-bytes : tie.Need-array-write-bytes
-array-write-bytes c = search needs
-
-add-t9 : tie.Need-add-t9
-add-t9 c = search needs
-
 returns-2 : tie.Need-returns-2
 returns-2 c =
     let a = c .before .before .args in
     sym (put-room (a .o) (a .b) (c .before .if1 .left))
 
 pub put-spec : {M : Type 1} → statement M
-put-spec = tie.close (tie.spec returns array-write-bytes add-t9 returns-2)
+put-spec = tie.close (tie.spec returns (λ c. search needs) (λ c. search needs) returns-2)

@@ -6,9 +6,6 @@ use Rattle.packed_codes.proofs.Buffer.{puts-one, puts-when, puts-unless
 use Rattle.packed_codes.proofs.put_if.Statement.{statement}
 use Rattle.packed_codes.proofs.put_if.Tie as tie
 
-put-requires : tie.Need-put-requires
-put-requires c κs = search needs
-
 returns : tie.Need-returns
 returns c =
     let a = c .before .before .args in
@@ -20,4 +17,4 @@ returns-2 c =
     sym (puts-unless (a .o) _ _ (ne-eqb _ _ (c .if1 .left)))
 
 pub put-if-spec : {M : Type 1} → statement M
-put-if-spec = tie.close (tie.spec put-requires returns returns-2)
+put-if-spec = tie.close (tie.spec (λ c κs. search needs) returns returns-2)

@@ -9,17 +9,11 @@ use Rattle.packed_codes.proofs.Buffer.{puts-none}
 use Rattle.packed_codes.proofs.second_list.Statement.{statement}
 use Rattle.packed_codes.proofs.second_list.Tie as tie
 
-fields-requires : tie.Need-fields-requires
-fields-requires c κs = search needs
-
 returns : tie.Need-returns
 returns c =
     let a = c .before .before .before .args in
     sym (puts-none (a .o))
     ∙ ap (puts (a .o)) (sym (second-none (fields (a .word)) (sym (ap (λ p. p .ret) (c .before .before .fields .ensures)) ∙ c .if1 .taken)))
-
-ef-requires : tie.Need-ef-requires
-ef-requires c κs = search needs
 
 adjust-requires : tie.Need-adjust-requires
 adjust-requires c κs = rw (c .before .before .before .fields .ensures) (fields-fit (c .before .before .before .before .args .word))
@@ -27,9 +21,6 @@ adjust-requires c κs = rw (c .before .before .before .fields .ensures) (fields-
 vpop-requires : tie.Need-vpop-requires
 vpop-requires c κs =
     rw (c .before .before .before .before .fields .ensures) (fields-fit (c .before .before .before .before .before .args .word))
-
-integers-requires : tie.Need-integers-requires
-integers-requires c κs = search needs
 
 leave-requires : tie.Need-leave-requires
 leave-requires c κs =
@@ -44,11 +35,11 @@ pub second-list-spec : {M : Type 1} → statement M
 second-list-spec =
     tie.close
     (tie.spec
-    fields-requires
+    (λ c κs. search needs)
     returns
-    ef-requires
+    (λ c κs. search needs)
     adjust-requires
     vpop-requires
-    integers-requires
+    (λ c κs. search needs)
     leave-requires
     returns-2)

@@ -13,32 +13,11 @@ returns c =
     let a = c .before .args in
     sym (puts-none (a .o)) ∙ ap (puts (a .o)) (sym (up-none (a .amount .0) (c .if1 .taken)))
 
-cast-put : tie.Need-cast-put
-cast-put c = search needs
-
-put-requires : tie.Need-put-requires
-put-requires c κs = search needs
-
 returns-2 : tie.Need-returns-2
 returns-2 c =
     let a = c .before .before .before .args in
     let n = a .amount .0 in
     c .put .ensures ∙ sym (puts-one (a .o) n) ∙ ap (puts (a .o)) (sym (up-low n (c .before .before .if1 .left) (c .before .if2 .taken)))
-
-add-put : tie.Need-add-put
-add-put c = search needs
-
-cast-put-2 : tie.Need-cast-put-2
-cast-put-2 c = search needs
-
-put-requires-2 : tie.Need-put-requires-2
-put-requires-2 c κs = search needs
-
-cast-put-3 : tie.Need-cast-put-3
-cast-put-3 c = search needs
-
-put-requires-3 : tie.Need-put-requires-3
-put-requires-3 c κs = search needs
 
 returns-3 : tie.Need-returns-3
 returns-3 c =
@@ -54,12 +33,12 @@ up-spec =
     tie.close
     (tie.spec
     returns
-    cast-put
-    put-requires
+    (λ c. search needs)
+    (λ c κs. search needs)
     returns-2
-    add-put
-    cast-put-2
-    put-requires-2
-    cast-put-3
-    put-requires-3
+    (λ c. search needs)
+    (λ c. search needs)
+    (λ c κs. search needs)
+    (λ c. search needs)
+    (λ c κs. search needs)
     returns-3)

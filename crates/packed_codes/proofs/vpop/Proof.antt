@@ -18,15 +18,6 @@ returns-2 c =
     let a = c .before .before .before .before .args in
     sym (puts-none (a .o)) ∙ ap (puts (a .o)) (sym (vpop-7 (a .p) (c .before .before .if1 .left) (c .if2 .taken)))
 
-add-put : tie.Need-add-put
-add-put c = search needs
-
-cast-put : tie.Need-cast-put
-cast-put c = search needs
-
-put-requires : tie.Need-put-requires
-put-requires c κs = search needs
-
 returns-3 : tie.Need-returns-3
 returns-3 c =
     let a = c .before .before .before .before .before .before .args in
@@ -35,4 +26,4 @@ returns-3 c =
     ∙ ap (puts (a .o)) (sym (vpop-some (a .p) (c .before .before .before .before .if1 .left) (c .before .before .if2 .left)))
 
 pub vpop-spec : {M : Type 1} → statement M
-vpop-spec = tie.close (tie.spec returns returns-2 add-put cast-put put-requires returns-3)
+vpop-spec = tie.close (tie.spec returns returns-2 (λ c. search needs) (λ c. search needs) (λ c κs. search needs) returns-3)

@@ -7,15 +7,6 @@ use Rattle.packed_codes.proofs.Written.{codes-refused, codes-given}
 use Rattle.packed_codes.proofs.write_codes.Statement.{statement}
 use Rattle.packed_codes.proofs.write_codes.Tie as tie
 
-fields-requires : tie.Need-fields-requires
-fields-requires c κs = search needs
-
-allowed-requires : tie.Need-allowed-requires
-allowed-requires c κs = search needs
-
-both-lists-requires : tie.Need-both-lists-requires
-both-lists-requires c κs = search needs
-
 returns : tie.Need-returns
 returns c =
     let a = c .before .before .before .before .args in
@@ -29,4 +20,4 @@ returns-2 c =
 
 pub write-codes-spec : {M : Type 1} → statement M
 write-codes-spec =
-    tie.close (tie.spec fields-requires allowed-requires both-lists-requires returns returns-2)
+    tie.close (tie.spec (λ c κs. search needs) (λ c κs. search needs) (λ c κs. search needs) returns returns-2)

@@ -18,26 +18,11 @@ Inv-loop pdata n i₀ last₀ i last = (n ≡ length pdata / 8) × (i ≤ n) × 
 abbrev μ-loop : tie.MeasureT-loop
 μ-loop pdata n i₀ last₀ i last = n - i
 
-records-requires : tie.Need-records-requires Inv-loop μ-loop
-records-requires c κs = search needs
-
-start-at-requires : tie.Need-start-at-requires Inv-loop μ-loop
-start-at-requires c κs = search needs
-
 loop-holds : tie.Need-loop-holds Inv-loop μ-loop
 loop-holds c =
     let s = c .before .before .before .args .pdata .now in
     let r = c .before .records in
     (r .ensures, omega arith, sym (ascending-all s) ∙ ap (ascendingFrom s 0) (sym (r .ensures)), c .start-at .ensures)
-
-add-loop : tie.Need-add-loop Inv-loop μ-loop
-add-loop c = search needs
-
-add-start-at : tie.Need-add-start-at Inv-loop μ-loop
-add-start-at c = search needs
-
-start-at-requires-2 : tie.Need-start-at-requires-2 Inv-loop μ-loop
-start-at-requires-2 c κs = search needs
 
 returns : tie.Need-returns Inv-loop μ-loop
 returns c =
@@ -46,12 +31,6 @@ returns c =
     let n = c .before .before .before .before .before .records .result in
     let down : startAt s (l .i + 1) ≤ startAt s (l .i) = omega (arith, c .if1 .taken, c .before .start-at2 .ensures, l .inv .3) in
     sym (l .inv .2 ∙ ascending-stops s (l .i) n (c .before .before .loop-test .taken) down)
-
-add-i : tie.Need-add-i Inv-loop μ-loop
-add-i c = search needs
-
-loop-less : tie.Need-loop-less Inv-loop μ-loop
-loop-less c = search needs
 
 loop-again : tie.Need-loop-again Inv-loop μ-loop
 loop-again c =
@@ -74,14 +53,14 @@ ascending-spec =
     (tie.spec
     Inv-loop
     μ-loop
-    records-requires
-    start-at-requires
+    (λ c κs. search needs)
+    (λ c κs. search needs)
     loop-holds
-    add-loop
-    add-start-at
-    start-at-requires-2
+    (λ c. search needs)
+    (λ c. search needs)
+    (λ c κs. search needs)
     returns
-    add-i
-    loop-less
+    (λ c. search needs)
+    (λ c. search needs)
     loop-again
     returns-2)

@@ -3,11 +3,8 @@ use borrow.Author.Needs.{needs}
 use Rattle.pdata.proofs.check.Statement.{statement}
 use Rattle.pdata.proofs.check.Tie as tie
 
-ascending-requires : tie.Need-ascending-requires
-ascending-requires c κs = search needs
-
 returns : tie.Need-returns
 returns c = cc
 
 pub check-spec : {M : Type 1} → statement M
-check-spec = tie.close (tie.spec ascending-requires returns)
+check-spec = tie.close (tie.spec (λ c κs. search needs) returns)

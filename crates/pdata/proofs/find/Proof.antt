@@ -3,14 +3,8 @@ use borrow.Author.Needs.{needs}
 use Rattle.pdata.proofs.find.Statement.{statement}
 use Rattle.pdata.proofs.find.Tie as tie
 
-check-requires : tie.Need-check-requires
-check-requires c κs = search needs
-
-find-in-requires : tie.Need-find-in-requires
-find-in-requires c κs = search needs
-
 returns : tie.Need-returns
 returns c = c .find-in .ensures (c .before .check .ensures)
 
 pub find-spec : {M : Type 1} → statement M
-find-spec = tie.close (tie.spec check-requires find-in-requires returns)
+find-spec = tie.close (tie.spec (λ c κs. search needs) (λ c κs. search needs) returns)

@@ -11,20 +11,11 @@ use Rattle.pdata.proofs.Finding.{find-unfit, find-below, find-unsorted,
 use Rattle.pdata.proofs.find_in.Statement.{statement}
 use Rattle.pdata.proofs.find_in.Tie as tie
 
-refused-requires : tie.Need-refused-requires
-refused-requires c κs = search needs
-
 returns : tie.Need-returns
 returns c e =
     let a = c .before .before .before .before .args in
     c .refused .ensures
     ∙ ap found (sym (find-unfit (a .image) (a .pdata .now) (a .pc) (sym (ap (λ k. k .fit) e) ∙ not-true (a .checked .fit) (c .before .if1 .taken))))
-
-even-requires : tie.Need-even-requires
-even-requires c κs = search needs
-
-refused-requires-2 : tie.Need-refused-requires-2
-refused-requires-2 c κs = search needs
 
 returns-2 : tie.Need-returns-2
 returns-2 c e =
@@ -33,18 +24,12 @@ returns-2 c e =
     c .refused2 .ensures
     ∙ ap found (sym (find-below (a .image) (a .pdata .now) (a .pc) (sym (ap (λ k. k .fit) e) ∙ not-false (a .checked .fit) (c .before .before .before .if1 .left)) below))
 
-refused-requires-3 : tie.Need-refused-requires-3
-refused-requires-3 c κs = search needs
-
 returns-3 : tie.Need-returns-3
 returns-3 c e =
     let a = c .before .before .before .before .before .before .before .before .args in
     let above : a .image ≤ even (a .pc) = omega (arith, c .before .before .before .before .even .ensures, c .before .before .before .if2 .left) in
     c .refused3 .ensures
     ∙ ap found (sym (find-unsorted (a .image) (a .pdata .now) (a .pc) (sym (ap (λ k. k .fit) e) ∙ not-false (a .checked .fit) (c .before .before .before .before .before .if1 .left)) above (sym (ap (λ k. k .sorted) e) ∙ not-true (a .checked .sorted) (c .before .if3 .taken))))
-
-search-requires : tie.Need-search-requires
-search-requires c κs = search needs
 
 returns-4 : tie.Need-returns-4
 returns-4 c e =
@@ -59,12 +44,12 @@ pub find-in-spec : {M : Type 1} → statement M
 find-in-spec =
     tie.close
     (tie.spec
-    refused-requires
+    (λ c κs. search needs)
     returns
-    even-requires
-    refused-requires-2
+    (λ c κs. search needs)
+    (λ c κs. search needs)
     returns-2
-    refused-requires-3
+    (λ c κs. search needs)
     returns-3
-    search-requires
+    (λ c κs. search needs)
     returns-4)

@@ -10,21 +10,12 @@ use Rattle.pdata.proofs.check.Reads as check-reads
 use Rattle.pdata.proofs.refused.Reads as refused-reads
 use Rattle.pdata.proofs.search.Reads as search-reads
 
-check-requires : tie.Need-check-requires
-check-requires c κs = search needs
-
-refused-requires : tie.Need-refused-requires
-refused-requires c κs = search needs
-
 returns : tie.Need-returns
 returns c =
     let y = c .before .before .before in
     let a = y .before .before .args in
     let e = y .check .ensures in
     c .refused .ensures ∙ ap found (sym (rva-unfit (a .pdata .now) (a .rva) (sym (ap (λ k. k .fit) e) ∙ not-true (y .check .result .fit) (c .before .if1 .taken))))
-
-refused-requires-2 : tie.Need-refused-requires-2
-refused-requires-2 c κs = search needs
 
 returns-2 : tie.Need-returns-2
 returns-2 c =
@@ -33,9 +24,6 @@ returns-2 c =
     let e = y .check .ensures in
     c .refused2 .ensures
     ∙ ap found (sym (rva-unsorted (a .pdata .now) (a .rva) (sym (ap (λ k. k .fit) e) ∙ not-false (y .check .result .fit) (c .before .before .before .if1 .left)) (sym (ap (λ k. k .sorted) e) ∙ not-true (y .check .result .sorted) (c .before .if2 .taken))))
-
-search-requires : tie.Need-search-requires
-search-requires c κs = search needs
 
 returns-3 : tie.Need-returns-3
 returns-3 c =
@@ -50,10 +38,10 @@ pub find-rva-spec : {M : Type 1} → statement M
 find-rva-spec =
     tie.close
     (tie.spec
-    check-requires
-    refused-requires
+    (λ c κs. search needs)
+    (λ c κs. search needs)
     returns
-    refused-requires-2
+    (λ c κs. search needs)
     returns-2
-    search-requires
+    (λ c κs. search needs)
     returns-3)

@@ -18,27 +18,6 @@ Inv-loop pdata rva low₀ high₀ low high = (low ≤ high) × (high ≤ length 
 abbrev μ-loop : tie.MeasureT-loop
 μ-loop pdata rva low₀ high₀ low high = high - low
 
-records-requires : tie.Need-records-requires Inv-loop μ-loop
-records-requires c κs = search needs
-
-loop-holds : tie.Need-loop-holds Inv-loop μ-loop
-loop-holds c = search needs
-
-sub-mid : tie.Need-sub-mid Inv-loop μ-loop
-sub-mid c = search needs
-
-add-mid : tie.Need-add-mid Inv-loop μ-loop
-add-mid c = search needs
-
-start-at-requires : tie.Need-start-at-requires Inv-loop μ-loop
-start-at-requires c κs = search needs
-
-add-low : tie.Need-add-low Inv-loop μ-loop
-add-low c = search needs
-
-loop-less : tie.Need-loop-less Inv-loop μ-loop
-loop-less c = search needs
-
 loop-again : tie.Need-loop-again Inv-loop μ-loop
 loop-again c =
     let s = c .before .before .before .before .before .before .args .pdata .now in
@@ -46,9 +25,6 @@ loop-again c =
     let mid = l .low + (l .high - l .low) / 2 in
     let e : mid + 1 - 1 ≡ mid = omega arith in
     (omega arith, omega arith, λ q. rw e (omega (arith, c .if1 .taken, c .before .start-at .ensures)), l .inv .3)
-
-loop-less-2 : tie.Need-loop-less-2 Inv-loop μ-loop
-loop-less-2 c = search needs
 
 loop-again-2 : tie.Need-loop-again-2 Inv-loop μ-loop
 loop-again-2 c =
@@ -61,12 +37,6 @@ returns c up =
     let l = c .before .before .loop in
     let z : l .high ≡ 0 = omega arith in
     ap (λ o. found (ok o)) (sym (found-none (a .pdata .now) (a .rva) up (λ q. rw z at (l .inv .3 (omega arith)))))
-
-sub-entry-at : tie.Need-sub-entry-at Inv-loop μ-loop
-sub-entry-at c = search needs
-
-entry-at-requires : tie.Need-entry-at-requires Inv-loop μ-loop
-entry-at-requires c κs = search needs
 
 returns-2 : tie.Need-returns-2 Inv-loop μ-loop
 returns-2 c up =
@@ -82,17 +52,17 @@ search-spec =
     (tie.spec
     Inv-loop
     μ-loop
-    records-requires
-    loop-holds
-    sub-mid
-    add-mid
-    start-at-requires
-    add-low
-    loop-less
+    (λ c κs. search needs)
+    (λ c. search needs)
+    (λ c. search needs)
+    (λ c. search needs)
+    (λ c κs. search needs)
+    (λ c. search needs)
+    (λ c. search needs)
     loop-again
-    loop-less-2
+    (λ c. search needs)
     loop-again-2
     returns
-    sub-entry-at
-    entry-at-requires
+    (λ c. search needs)
+    (λ c κs. search needs)
     returns-2)

@@ -8,12 +8,6 @@ use Rattle.lent.specs.Little.{word32}
 use Rattle.pdata.proofs.start_at.Statement.{statement}
 use Rattle.pdata.proofs.start_at.Tie as tie
 
-word-of-requires : tie.Need-word-of-requires
-word-of-requires c κs = search needs
-
-even-requires : tie.Need-even-requires
-even-requires c κs = search needs
-
 returns : tie.Need-returns
 returns c =
     let a = c .before .before .before .args in
@@ -21,4 +15,4 @@ returns c =
     c .even .ensures ∙ ap even (c .before .word-of .ensures ∙ ap (word32 (a .pdata .now)) z)
 
 pub start-at-spec : {M : Type 1} → statement M
-start-at-spec = tie.close (tie.spec word-of-requires even-requires returns)
+start-at-spec = tie.close (tie.spec (λ c κs. search needs) (λ c κs. search needs) returns)

@@ -13,29 +13,11 @@ use Rattle.place.proofs.in_plan.Reads as in-plan-reads
 use Rattle.place.proofs.refused.Reads as refused-reads
 use Rattle.record.proofs.full.Reads as full-reads
 
-full-requires : tie.Need-full-requires
-full-requires c κs = search needs
-
-enum-known-verdict : tie.Need-enum-known-verdict
-enum-known-verdict c = search needs
-
-refused-requires : tie.Need-refused-requires
-refused-requires c κs = search needs
-
-enum-told : tie.Need-enum-told
-enum-told c = search needs
-
 add-end : tie.Need-add-end
 add-end c =
     let y = c .before .before .before .before in
     let a = y .before .before .args in
     omega (arith, full-inside (a .rva) (a .xdata .now) (a .rec) (y .full .result) (y .full .ensures))
-
-sub-in-plan : tie.Need-sub-in-plan
-sub-in-plan c = search needs
-
-part-in-plan-start : tie.Need-part-in-plan-start
-part-in-plan-start c = search needs
 
 part-in-plan-end : tie.Need-part-in-plan-end
 part-in-plan-end c =
@@ -73,13 +55,13 @@ pub full-spec : {M : Type 1} → statement M
 full-spec =
     tie.close
     (tie.spec
-    full-requires
-    enum-known-verdict
-    refused-requires
-    enum-told
+    (λ c κs. search needs)
+    (λ c. search needs)
+    (λ c κs. search needs)
+    (λ c. search needs)
     add-end
-    sub-in-plan
-    part-in-plan-start
+    (λ c. search needs)
+    (λ c. search needs)
     part-in-plan-end
     in-plan-requires
     returns

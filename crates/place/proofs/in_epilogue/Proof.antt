@@ -8,24 +8,6 @@ use Rattle.reader.proofs.skip.Reads as skip-reads
 use Rattle.place.proofs.no_spot.Reads as no-spot-reads
 use Rattle.place.proofs.past.Reads as past-reads
 
-past-requires : tie.Need-past-requires
-past-requires c κs = search needs
-
-skip-requires : tie.Need-skip-requires
-skip-requires c κs = search needs
-
-enum-known-index : tie.Need-enum-known-index
-enum-known-index c = search needs
-
-no-spot-requires : tie.Need-no-spot-requires
-no-spot-requires c κs = search needs
-
-enum-told : tie.Need-enum-told
-enum-told c = search needs
-
-no-spot-requires-2 : tie.Need-no-spot-requires-2
-no-spot-requires-2 c κs = search needs
-
 returns : tie.Need-returns
 returns c = simp (← c .before .before .before .before .before .before .past .ensures, ← c .before .before .before .before .before .skip .ensures, c .before .before .before .index .given .1, eq-eqb _ _ (c .if1 .taken))
 
@@ -39,12 +21,12 @@ pub in-epilogue-spec : {M : Type 1} → statement M
 in-epilogue-spec =
     tie.close
     (tie.spec
-    past-requires
-    skip-requires
-    enum-known-index
-    no-spot-requires
-    enum-told
-    no-spot-requires-2
+    (λ c κs. search needs)
+    (λ c κs. search needs)
+    (λ c. search needs)
+    (λ c κs. search needs)
+    (λ c. search needs)
+    (λ c κs. search needs)
     returns
     returns-2
     returns-3)

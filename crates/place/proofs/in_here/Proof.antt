@@ -5,15 +5,6 @@ use Rattle.place.proofs.in_here.Statement.{statement}
 use Rattle.place.proofs.in_here.Tie as tie
 use Rattle.place.proofs.in_epilogue.Reads as in-epilogue-reads
 
-enum-known-here : tie.Need-enum-known-here
-enum-known-here c = search needs
-
-in-epilogue-requires : tie.Need-in-epilogue-requires
-in-epilogue-requires c κs = search needs
-
-enum-told : tie.Need-enum-told
-enum-told c = search needs
-
 returns : tie.Need-returns
 returns c = simp (c .before .before .here .given .1, c .in-epilogue .ensures)
 
@@ -21,4 +12,4 @@ returns-2 : tie.Need-returns-2
 returns-2 c = simp (c .enum-told .given .1)
 
 pub in-here-spec : {M : Type 1} → statement M
-in-here-spec = tie.close (tie.spec enum-known-here in-epilogue-requires enum-told returns returns-2)
+in-here-spec = tie.close (tie.spec (λ c. search needs) (λ c κs. search needs) (λ c. search needs) returns returns-2)

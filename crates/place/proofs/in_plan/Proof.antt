@@ -8,12 +8,6 @@ use Rattle.place.proofs.in_plan.Statement.{statement}
 use Rattle.place.proofs.in_plan.Tie as tie
 use Rattle.place.proofs.spot_in.Reads as spot-in-reads
 
-cast-if1 : tie.Need-cast-if1
-cast-if1 c = search needs
-
-spot-in-requires : tie.Need-spot-in-requires
-spot-in-requires c κs = search needs
-
 returns : tie.Need-returns
 returns c =
     let y = c .before in
@@ -28,4 +22,4 @@ returns-2 c =
     if-false at outside (le-ltb _ _ (c .if1 .left))
 
 pub in-plan-spec : {M : Type 1} → statement M
-in-plan-spec = tie.close (tie.spec cast-if1 spot-in-requires returns returns-2)
+in-plan-spec = tie.close (tie.spec (λ c. search needs) (λ c κs. search needs) returns returns-2)

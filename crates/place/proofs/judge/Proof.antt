@@ -12,21 +12,12 @@ use Rattle.place.proofs.judge_full.Reads as judge-full-reads
 use Rattle.place.proofs.judge_packed.Reads as judge-packed-reads
 use Rattle.words.proofs.bits.Reads as bits-reads
 
-bits-requires : tie.Need-bits-requires
-bits-requires c κs = search needs
-
-judge-full-requires : tie.Need-judge-full-requires
-judge-full-requires c κs = search needs
-
 returns : tie.Need-returns
 returns c =
     let y = c .before .before in
     let a = y .before .before .args in
     c .judge-full .ensures
     ∙ sym (ap (λ s. verdict (s >>= view size codesAt)) (shape-full (lent (a .rva) (a .xdata .now)) (a .word) (sym (y .bits .ensures .0) ∙ c .before .if1 .taken)))
-
-judge-packed-requires : tie.Need-judge-packed-requires
-judge-packed-requires c κs = search needs
 
 returns-2 : tie.Need-returns-2
 returns-2 c =
@@ -37,4 +28,4 @@ returns-2 c =
 
 pub judge-spec : {M : Type 1} → statement M
 judge-spec =
-    tie.close (tie.spec bits-requires judge-full-requires returns judge-packed-requires returns-2)
+    tie.close (tie.spec (λ c κs. search needs) (λ c κs. search needs) returns (λ c κs. search needs) returns-2)

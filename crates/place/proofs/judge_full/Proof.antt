@@ -15,26 +15,11 @@ use Rattle.place.proofs.judge_full.Tie as tie
 use Rattle.place.proofs.layout.judge.Reads as judge-reads
 use Rattle.record.proofs.full.Reads as full-reads
 
-full-requires : tie.Need-full-requires
-full-requires c κs = search needs
-
-enum-told : tie.Need-enum-told
-enum-told c = search needs
-
-enum-told-2 : tie.Need-enum-told-2
-enum-told-2 c = search needs
-
 add-end : tie.Need-add-end
 add-end c =
     let y = c .before .before .before .before in
     let a = y .before .before .args in
     omega (arith, full-inside (a .rva) (a .xdata .now) (a .at) (y .full .result) (y .full .ensures))
-
-sub-judge : tie.Need-sub-judge
-sub-judge c = search needs
-
-part-judge-start : tie.Need-part-judge-start
-part-judge-start c = search needs
 
 part-judge-end : tie.Need-part-judge-end
 part-judge-end c =
@@ -71,12 +56,12 @@ pub judge-full-spec : {M : Type 1} → statement M
 judge-full-spec =
     tie.close
     (tie.spec
-    full-requires
-    enum-told
-    enum-told-2
+    (λ c κs. search needs)
+    (λ c. search needs)
+    (λ c. search needs)
     add-end
-    sub-judge
-    part-judge-start
+    (λ c. search needs)
+    (λ c. search needs)
     part-judge-end
     judge-requires
     returns

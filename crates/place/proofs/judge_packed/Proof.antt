@@ -8,21 +8,6 @@ use Rattle.place.proofs.judge_packed.Tie as tie
 use Rattle.place.proofs.layout.judge.Reads as judge-reads
 use Rattle.record.proofs.packed.Reads as packed-reads
 
-packed-requires : tie.Need-packed-requires
-packed-requires c κs = search needs
-
-enum-told : tie.Need-enum-told
-enum-told c = search needs
-
-enum-told-2 : tie.Need-enum-told-2
-enum-told-2 c = search needs
-
-slice-aggregate-judge : tie.Need-slice-aggregate-judge
-slice-aggregate-judge c = search needs
-
-slice-aggregate-judge-2 : tie.Need-slice-aggregate-judge-2
-slice-aggregate-judge-2 c = search needs
-
 judge-requires : tie.Need-judge-requires
 judge-requires c κs =
     let y = c .before .before .before .before .before .before in
@@ -42,11 +27,11 @@ pub judge-packed-spec : {M : Type 1} → statement M
 judge-packed-spec =
     tie.close
     (tie.spec
-    packed-requires
-    enum-told
-    enum-told-2
-    slice-aggregate-judge
-    slice-aggregate-judge-2
+    (λ c κs. search needs)
+    (λ c. search needs)
+    (λ c. search needs)
+    (λ c. search needs)
+    (λ c. search needs)
     judge-requires
     returns
     returns-2)

@@ -10,24 +10,6 @@ use Rattle.place.proofs.in_plan.Reads as in-plan-reads
 use Rattle.place.proofs.refused.Reads as refused-reads
 use Rattle.record.proofs.packed.Reads as packed-reads
 
-packed-requires : tie.Need-packed-requires
-packed-requires c κs = search needs
-
-enum-known-verdict : tie.Need-enum-known-verdict
-enum-known-verdict c = search needs
-
-refused-requires : tie.Need-refused-requires
-refused-requires c κs = search needs
-
-enum-told : tie.Need-enum-told
-enum-told c = search needs
-
-slice-aggregate-in-plan : tie.Need-slice-aggregate-in-plan
-slice-aggregate-in-plan c = search needs
-
-slice-aggregate-in-plan-2 : tie.Need-slice-aggregate-in-plan-2
-slice-aggregate-in-plan-2 c = search needs
-
 in-plan-requires : tie.Need-in-plan-requires
 in-plan-requires c κs =
     let y = c .before .before .before .before .before .before in
@@ -51,12 +33,12 @@ pub packed-spec : {M : Type 1} → statement M
 packed-spec =
     tie.close
     (tie.spec
-    packed-requires
-    enum-known-verdict
-    refused-requires
-    enum-told
-    slice-aggregate-in-plan
-    slice-aggregate-in-plan-2
+    (λ c κs. search needs)
+    (λ c. search needs)
+    (λ c κs. search needs)
+    (λ c. search needs)
+    (λ c. search needs)
+    (λ c. search needs)
     in-plan-requires
     returns
     returns-2)

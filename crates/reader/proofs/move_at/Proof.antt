@@ -6,18 +6,6 @@ use Rattle.reader.specs.as_coded.Reading.{past, moved}
 use Rattle.reader.proofs.move_at.Statement.{statement}
 use Rattle.reader.proofs.move_at.Tie as tie
 
-take-at-requires : tie.Need-take-at-requires
-take-at-requires c κs = search needs
-
-enum-known-taken : tie.Need-enum-known-taken
-enum-known-taken c = search needs
-
-enum-told : tie.Need-enum-told
-enum-told c = search needs
-
-enum-told-2 : tie.Need-enum-told-2
-enum-told-2 c = search needs
-
 returns : tie.Need-returns
 returns c =
     let a = c .before .before .before .before .before .args in
@@ -38,4 +26,4 @@ returns-3 c =
 pub move-at-spec : {M : Type 1} → statement M
 move-at-spec =
     tie.close
-    (tie.spec take-at-requires enum-known-taken enum-told enum-told-2 returns returns-2 returns-3)
+    (tie.spec (λ c κs. search needs) (λ c. search needs) (λ c. search needs) (λ c. search needs) returns returns-2 returns-3)

@@ -24,15 +24,6 @@ abbrev μ-loop : tie.MeasureT-loop
 loop-holds : tie.Need-loop-holds Inv-loop μ-loop
 loop-holds c = refl
 
-take-at-requires : tie.Need-take-at-requires Inv-loop μ-loop
-take-at-requires c κs = search needs
-
-enum-known-t : tie.Need-enum-known-t Inv-loop μ-loop
-enum-known-t c = search needs
-
-halfword-bytes-requires : tie.Need-halfword-bytes-requires Inv-loop μ-loop
-halfword-bytes-requires c κs = search needs
-
 returns : tie.Need-returns Inv-loop μ-loop
 returns c =
     let a = c .before .before .before .before .before .before .before .before .before .args in
@@ -61,17 +52,11 @@ loop-again c =
     ∙ sym (ap shown (skip-one size takes (a .codes .now) (l .i) (l .left) (c .before .before .before .before .before .before .loop-test .taken) (ap seen e) (subst (λ x. x ≤ l .left) z (c .if1 .left))))
     ∙ l .inv
 
-enum-told : tie.Need-enum-told Inv-loop μ-loop
-enum-told c = search needs
-
 returns-2 : tie.Need-returns-2 Inv-loop μ-loop
 returns-2 c =
     let a = c .before .before .before .before .before .before .args in
     let l = c .before .before .before .before .loop in
     sym (ap shown (skip-last size takes (a .codes .now) (l .i) (l .left) (c .before .before .before .loop-test .taken) (ap seen (sym (c .before .before .take-at .ensures) ∙ c .enum-told .given .1)))) ∙ l .inv
-
-enum-told-2 : tie.Need-enum-told-2 Inv-loop μ-loop
-enum-told-2 c = search needs
 
 returns-3 : tie.Need-returns-3 Inv-loop μ-loop
 returns-3 c =
@@ -92,14 +77,14 @@ skip-spec =
     Inv-loop
     μ-loop
     loop-holds
-    take-at-requires
-    enum-known-t
-    halfword-bytes-requires
+    (λ c κs. search needs)
+    (λ c. search needs)
+    (λ c κs. search needs)
     returns
     loop-less
     loop-again
-    enum-told
+    (λ c. search needs)
     returns-2
-    enum-told-2
+    (λ c. search needs)
     returns-3
     returns-4)

@@ -8,35 +8,11 @@ use Rattle.record.proofs.Shapes.{after-given, after-refused}
 use Rattle.record.proofs.after_head.Statement.{statement}
 use Rattle.record.proofs.after_head.Tie as tie
 
-offset-requires : tie.Need-offset-requires
-offset-requires c κs = search needs
-
-cast-first : tie.Need-cast-first
-cast-first c = search needs
-
-add-first : tie.Need-add-first
-add-first c = search needs
-
-scope-count-requires : tie.Need-scope-count-requires
-scope-count-requires c κs = search needs
-
-cast-res-zero : tie.Need-cast-res-zero
-cast-res-zero c = search needs
-
-res-zero-requires : tie.Need-res-zero-requires
-res-zero-requires c κs = search needs
-
-full-of-requires : tie.Need-full-of-requires
-full-of-requires c κs = search needs
-
 returns : tie.Need-returns
 returns c =
     let a = c .before .before .before .before .before .before .before .args in
     c .full-of .ensures
     ∙ ap fullAnswer (sym (after-given (a .rva) (a .xdata .now) (a .at) (a .h) (c .before .before .before .before .before .before .before .pre) (ap₂ (λ o n. resZero (a .xdata .now) (o + a .h .bytes) 0 n) (sym (c .before .before .before .before .before .offset .ensures .0)) (sym (c .before .before .before .scope-count .ensures)) ∙ sym (c .before .before .res-zero .ensures) ∙ c .before .if1 .taken)))
-
-no-full-requires : tie.Need-no-full-requires
-no-full-requires c κs = search needs
 
 returns-2 : tie.Need-returns-2
 returns-2 c =
@@ -48,13 +24,13 @@ pub after-head-spec : {M : Type 1} → statement M
 after-head-spec =
     tie.close
     (tie.spec
-    offset-requires
-    cast-first
-    add-first
-    scope-count-requires
-    cast-res-zero
-    res-zero-requires
-    full-of-requires
+    (λ c κs. search needs)
+    (λ c. search needs)
+    (λ c. search needs)
+    (λ c κs. search needs)
+    (λ c. search needs)
+    (λ c κs. search needs)
+    (λ c κs. search needs)
     returns
-    no-full-requires
+    (λ c κs. search needs)
     returns-2)

@@ -5,16 +5,10 @@ use Rattle.words.proofs.Tests.{if-true, if-false}
 use Rattle.record.proofs.epilogues.Statement.{statement}
 use Rattle.record.proofs.epilogues.Tie as tie
 
-has-last-requires : tie.Need-has-last-requires
-has-last-requires c κs = search needs
-
 returns : tie.Need-returns
 returns c =
     let h = c .before .before .args .h in
     if-true 1 (h .count) (sym (c .before .has-last .ensures) ∙ c .if1 .taken)
-
-cast-result : tie.Need-cast-result
-cast-result c = search needs
 
 returns-2 : tie.Need-returns-2
 returns-2 c =
@@ -22,4 +16,4 @@ returns-2 c =
     if-false 1 (h .count) (sym (c .before .before .has-last .ensures) ∙ c .before .if1 .left)
 
 pub epilogues-spec : {M : Type 1} → statement M
-epilogues-spec = tie.close (tie.spec has-last-requires returns cast-result returns-2)
+epilogues-spec = tie.close (tie.spec (λ c κs. search needs) returns (λ c. search needs) returns-2)

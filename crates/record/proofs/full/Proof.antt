@@ -9,22 +9,10 @@ use Rattle.xdata.proofs.Heads.{read-given, read-refused}
 use Rattle.record.proofs.full.Statement.{statement}
 use Rattle.record.proofs.full.Tie as tie
 
-head-at-requires : tie.Need-head-at-requires
-head-at-requires c κs = search needs
-
-enum-told : tie.Need-enum-told
-enum-told c = search needs
-
 after-head-requires : tie.Need-after-head-requires
 after-head-requires c κs =
     let a = c .before .before .before .before .args in
     head-above (lent (a .rva) (a .xdata .now)) (a .at) (c .before .before .head-at .result .head) (read-given (headAt (lent (a .rva) (a .xdata .now)) (a .at)) (c .before .before .head-at .result) (c .before .before .head-at .ensures) (c .enum-told .given .1))
-
-enum-known-verdict : tie.Need-enum-known-verdict
-enum-known-verdict c = search needs
-
-no-full-requires : tie.Need-no-full-requires
-no-full-requires c κs = search needs
 
 returns : tie.Need-returns
 returns c =
@@ -42,10 +30,10 @@ pub full-spec : {M : Type 1} → statement M
 full-spec =
     tie.close
     (tie.spec
-    head-at-requires
-    enum-told
+    (λ c κs. search needs)
+    (λ c. search needs)
     after-head-requires
-    enum-known-verdict
-    no-full-requires
+    (λ c. search needs)
+    (λ c κs. search needs)
     returns
     returns-2)

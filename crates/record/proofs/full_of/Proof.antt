@@ -6,21 +6,6 @@ use Rattle.words.specs.declared.Verdict.the-variants.{Given}
 use Rattle.record.proofs.full_of.Statement.{statement}
 use Rattle.record.proofs.full_of.Tie as tie
 
-code-word-bytes-requires : tie.Need-code-word-bytes-requires
-code-word-bytes-requires c κs = search needs
-
-plan-of-requires : tie.Need-plan-of-requires
-plan-of-requires c κs = search needs
-
-offset-requires : tie.Need-offset-requires
-offset-requires c κs = search needs
-
-codes-offset-requires : tie.Need-codes-offset-requires
-codes-offset-requires c κs = search needs
-
-add-t11 : tie.Need-add-t11
-add-t11 c = search needs
-
 returns : tie.Need-returns
 returns c =
     let start = ap₂ (λ o n. o + n) (c .before .offset .ensures .0) (c .codes-offset .ensures .0) in
@@ -30,9 +15,9 @@ pub full-of-spec : {M : Type 1} → statement M
 full-of-spec =
     tie.close
     (tie.spec
-    code-word-bytes-requires
-    plan-of-requires
-    offset-requires
-    codes-offset-requires
-    add-t11
+    (λ c κs. search needs)
+    (λ c κs. search needs)
+    (λ c κs. search needs)
+    (λ c κs. search needs)
+    (λ c. search needs)
     returns)

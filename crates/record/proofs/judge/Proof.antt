@@ -11,21 +11,12 @@ use Rattle.record.proofs.full.Reads as full-reads
 use Rattle.record.proofs.packed.Reads as packed-reads
 use Rattle.words.proofs.bits.Reads as bits-reads
 
-bits-requires : tie.Need-bits-requires
-bits-requires c κs = search needs
-
-full-requires : tie.Need-full-requires
-full-requires c κs = search needs
-
 returns : tie.Need-returns
 returns c =
     let y = c .before .before in
     let a = y .before .before .args in
     full-told (a .rva) (a .xdata .now) (a .word) (c .full .result) (c .full .ensures)
     ∙ sym (ap verdict (shape-full (lent (a .rva) (a .xdata .now)) (a .word) (sym (y .bits .ensures .0) ∙ c .before .if1 .taken)))
-
-packed-requires : tie.Need-packed-requires
-packed-requires c κs = search needs
 
 returns-2 : tie.Need-returns-2
 returns-2 c =
@@ -35,4 +26,4 @@ returns-2 c =
     ∙ sym (ap verdict (shape-packed (lent (a .rva) (a .xdata .now)) (a .word) (λ q. c .before .if1 .left (y .bits .ensures .0 ∙ q))))
 
 pub judge-spec : {M : Type 1} → statement M
-judge-spec = tie.close (tie.spec bits-requires full-requires returns packed-requires returns-2)
+judge-spec = tie.close (tie.spec (λ c κs. search needs) (λ c κs. search needs) returns (λ c κs. search needs) returns-2)

@@ -4,11 +4,8 @@ use Rattle.words.specs.declared.Verdict.the-variants.{Refused}
 use Rattle.record.proofs.no_full.Statement.{statement}
 use Rattle.record.proofs.no_full.Tie as tie
 
-blank-requires : tie.Need-blank-requires
-blank-requires c κs = search needs
-
 returns : tie.Need-returns
 returns c = λ i. record { verdict = Refused (c .before .args .why); plan = c .blank .ensures i; codes = record { start = 0; len = 0 } }
 
 pub no-full-spec : {M : Type 1} → statement M
-no-full-spec = tie.close (tie.spec blank-requires returns)
+no-full-spec = tie.close (tie.spec (λ c κs. search needs) returns)

@@ -7,21 +7,6 @@ use Rattle.record.proofs.Shapes.{packed-given, packed-refused}
 use Rattle.record.proofs.packed.Statement.{statement}
 use Rattle.record.proofs.packed.Tie as tie
 
-write-codes-requires : tie.Need-write-codes-requires
-write-codes-requires c κs = search needs
-
-enum-told : tie.Need-enum-told
-enum-told c = search needs
-
-packed-by-requires : tie.Need-packed-by-requires
-packed-by-requires c κs = search needs
-
-enum-known-verdict : tie.Need-enum-known-verdict
-enum-known-verdict c = search needs
-
-no-packed-requires : tie.Need-no-packed-requires
-no-packed-requires c κs = search needs
-
 returns : tie.Need-returns
 returns c =
     let w = c .before .before .before .before .args .word in
@@ -40,10 +25,10 @@ pub packed-spec : {M : Type 1} → statement M
 packed-spec =
     tie.close
     (tie.spec
-    write-codes-requires
-    enum-told
-    packed-by-requires
-    enum-known-verdict
-    no-packed-requires
+    (λ c κs. search needs)
+    (λ c. search needs)
+    (λ c κs. search needs)
+    (λ c. search needs)
+    (λ c κs. search needs)
     returns
     returns-2)

@@ -7,9 +7,6 @@ use Rattle.record.specs.as_coded.Plan.{packedPlanBy}
 use Rattle.record.proofs.packed_by.Statement.{statement}
 use Rattle.record.proofs.packed_by.Tie as tie
 
-fields-requires : tie.Need-fields-requires
-fields-requires c κs = search needs
-
 plan-by-requires : tie.Need-plan-by-requires
 plan-by-requires c κs = rw (c .fields .ensures) (fields-fit (c .before .before .args .word))
 
@@ -20,4 +17,4 @@ returns c =
     λ i. record { verdict = Given; plan = plan i; bytes = a .c .bytes }
 
 pub packed-by-spec : {M : Type 1} → statement M
-packed-by-spec = tie.close (tie.spec fields-requires plan-by-requires returns)
+packed-by-spec = tie.close (tie.spec (λ c κs. search needs) plan-by-requires returns)

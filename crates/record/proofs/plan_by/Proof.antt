@@ -5,19 +5,10 @@ use Rattle.record.specs.declared.Scopes.the-variants.{Ending}
 use Rattle.record.proofs.plan_by.Statement.{statement}
 use Rattle.record.proofs.plan_by.Tie as tie
 
-halfword-bytes-requires : tie.Need-halfword-bytes-requires
-halfword-bytes-requires c κs = search needs
-
-cast-t4 : tie.Need-cast-t4
-cast-t4 c = search needs
-
-packed-epilogues-requires : tie.Need-packed-epilogues-requires
-packed-epilogues-requires c κs = search needs
-
 returns : tie.Need-returns
 returns c =
     let a = c .before .before .before .args in
     λ i. record { span = c .before .before .halfword-bytes .ensures .0 i; fragment = eqb (a .p .flag) 2; count = c .packed-epilogues .ensures i; scopes = Ending (a .first); handler = 0 }
 
 pub plan-by-spec : {M : Type 1} → statement M
-plan-by-spec = tie.close (tie.spec halfword-bytes-requires cast-t4 packed-epilogues-requires returns)
+plan-by-spec = tie.close (tie.spec (λ c κs. search needs) (λ c. search needs) (λ c κs. search needs) returns)

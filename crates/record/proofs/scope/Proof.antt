@@ -6,18 +6,6 @@ use Rattle.xdata.specs.Scopes.{scopeOf}
 use Rattle.record.proofs.scope.Statement.{statement}
 use Rattle.record.proofs.scope.Tie as tie
 
-enum-known-scopes : tie.Need-enum-known-scopes
-enum-known-scopes c = search needs
-
-enum-known-scopes-2 : tie.Need-enum-known-scopes-2
-enum-known-scopes-2 c = search needs
-
-word-after-requires : tie.Need-word-after-requires
-word-after-requires c κs = search needs
-
-scope-of-requires : tie.Need-scope-of-requires
-scope-of-requires c κs = search needs
-
 returns : tie.Need-returns
 returns c =
     let a = c .before .before .before .before .args in
@@ -34,9 +22,9 @@ pub scope-spec : {M : Type 1} → statement M
 scope-spec =
     tie.close
     (tie.spec
-    enum-known-scopes
-    enum-known-scopes-2
-    word-after-requires
-    scope-of-requires
+    (λ c. search needs)
+    (λ c. search needs)
+    (λ c κs. search needs)
+    (λ c κs. search needs)
     returns
     returns-2)

@@ -8,22 +8,10 @@ use Rattle.words.proofs.Tests.{if-true, if-false}
 use Rattle.record.proofs.scopes_of.Statement.{statement}
 use Rattle.record.proofs.scopes_of.Tie as tie
 
-has-last-requires : tie.Need-has-last-requires
-has-last-requires c κs = search needs
-
-cast-t4 : tie.Need-cast-t4
-cast-t4 c = search needs
-
 returns : tie.Need-returns
 returns c =
     let a = c .before .before .before .args in
     if-true (Ending (codeBytes (a .h .count))) (Listed (a .offset + a .h .bytes)) (sym (c .before .before .has-last .ensures) ∙ c .before .if1 .taken)
-
-cast-t6 : tie.Need-cast-t6
-cast-t6 c = search needs
-
-add-t7 : tie.Need-add-t7
-add-t7 c = search needs
 
 returns-2 : tie.Need-returns-2
 returns-2 c =
@@ -31,4 +19,4 @@ returns-2 c =
     if-false (Ending (codeBytes (a .h .count))) (Listed (a .offset + a .h .bytes)) (sym (c .before .before .has-last .ensures) ∙ c .before .if1 .left)
 
 pub scopes-of-spec : {M : Type 1} → statement M
-scopes-of-spec = tie.close (tie.spec has-last-requires cast-t4 returns cast-t6 add-t7 returns-2)
+scopes-of-spec = tie.close (tie.spec (λ c κs. search needs) (λ c. search needs) returns (λ c. search needs) (λ c. search needs) returns-2)

@@ -26,9 +26,6 @@ mul-word64 c = omega arith
 add-word64 : tie.Need-add-word64 Inv-loop μ-loop
 add-word64 c = omega arith
 
-word64-requires : tie.Need-word64-requires Inv-loop μ-loop
-word64-requires c κs = search needs
-
 mul-d : tie.Need-mul-d Inv-loop μ-loop
 mul-d c = omega arith
 
@@ -59,7 +56,7 @@ doubles-spec =
     loop-holds
     mul-word64
     add-word64
-    word64-requires
+    (λ c κs. search needs)
     mul-d
     array-write-d
     add-i

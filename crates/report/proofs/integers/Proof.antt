@@ -26,9 +26,6 @@ mul-word32 c = omega arith
 add-word32 : tie.Need-add-word32 Inv-loop μ-loop
 add-word32 c = omega arith
 
-word32-requires : tie.Need-word32-requires Inv-loop μ-loop
-word32-requires c κs = search needs
-
 mul-r : tie.Need-mul-r Inv-loop μ-loop
 mul-r c = omega arith
 
@@ -59,7 +56,7 @@ integers-spec =
     loop-holds
     mul-word32
     add-word32
-    word32-requires
+    (λ c κs. search needs)
     mul-r
     array-write-r
     add-i

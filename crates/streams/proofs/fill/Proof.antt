@@ -18,24 +18,6 @@ Inv-loop fd buf₀ count₀ buf count = (length buf ≡ length buf₀) × (count
 abbrev μ-loop : tie.MeasureT-loop
 μ-loop fd buf₀ count₀ buf count = length buf - count
 
-loop-holds : tie.Need-loop-holds Inv-loop μ-loop
-loop-holds c = search needs
-
-sub-read-some : tie.Need-sub-read-some Inv-loop μ-loop
-sub-read-some c = search needs
-
-part-read-some-start : tie.Need-part-read-some-start Inv-loop μ-loop
-part-read-some-start c = search needs
-
-part-read-some-end : tie.Need-part-read-some-end Inv-loop μ-loop
-part-read-some-end c = search needs
-
-read-some-requires : tie.Need-read-some-requires Inv-loop μ-loop
-read-some-requires c κs = search needs
-
-enum-known-more : tie.Need-enum-known-more Inv-loop μ-loop
-enum-known-more c = search needs
-
 add-count : tie.Need-add-count Inv-loop μ-loop
 add-count c =
     let r = c .before .before .before .before .before in
@@ -57,35 +39,11 @@ loop-again c =
     let k = some-bytes _ _ _ (c .before .more .given .1) (r .read-some .ensures) in
     omega (arith, k .0, k .1, c .before .before .before .before .buf .given .0, mid-len (l .count) (length (l .buf)) (l .buf) (omega arith))
 
-enum-told : tie.Need-enum-told Inv-loop μ-loop
-enum-told c = search needs
-
-came-requires : tie.Need-came-requires Inv-loop μ-loop
-came-requires c κs = search needs
-
-same-length : tie.Need-same-length Inv-loop μ-loop
-same-length c = search needs
-
 returns : tie.Need-returns Inv-loop μ-loop
 returns c = record { within = counts _ _ (omega arith); short = λ e. absurd (false≢true (sym (c .came .ensures .1) ∙ e)) }
 
-enum-told-2 : tie.Need-enum-told-2 Inv-loop μ-loop
-enum-told-2 c = search needs
-
-came-requires-2 : tie.Need-came-requires-2 Inv-loop μ-loop
-came-requires-2 c κs = search needs
-
-same-length-2 : tie.Need-same-length-2 Inv-loop μ-loop
-same-length-2 c = search needs
-
 returns-2 : tie.Need-returns-2 Inv-loop μ-loop
 returns-2 c = record { within = counts _ _ (omega arith); short = λ e. omega arith }
-
-came-requires-3 : tie.Need-came-requires-3 Inv-loop μ-loop
-came-requires-3 c κs = search needs
-
-same-length-3 : tie.Need-same-length-3 Inv-loop μ-loop
-same-length-3 c = search needs
 
 returns-3 : tie.Need-returns-3 Inv-loop μ-loop
 returns-3 c = record { within = counts _ _ (omega arith); short = λ e. absurd (false≢true (sym (c .came3 .ensures .1) ∙ e)) }
@@ -96,23 +54,23 @@ fill-spec =
     (tie.spec
     Inv-loop
     μ-loop
-    loop-holds
-    sub-read-some
-    part-read-some-start
-    part-read-some-end
-    read-some-requires
-    enum-known-more
+    (λ c. search needs)
+    (λ c. search needs)
+    (λ c. search needs)
+    (λ c. search needs)
+    (λ c κs. search needs)
+    (λ c. search needs)
     add-count
     loop-less
     loop-again
-    enum-told
-    came-requires
-    same-length
+    (λ c. search needs)
+    (λ c κs. search needs)
+    (λ c. search needs)
     returns
-    enum-told-2
-    came-requires-2
-    same-length-2
+    (λ c. search needs)
+    (λ c κs. search needs)
+    (λ c. search needs)
     returns-2
-    came-requires-3
-    same-length-3
+    (λ c κs. search needs)
+    (λ c. search needs)
     returns-3)

@@ -16,28 +16,10 @@ Inv-loop fd buf₀ bytes count₀ buf count = (length buf ≡ length buf₀) × 
 abbrev μ-loop : tie.MeasureT-loop
 μ-loop fd buf₀ bytes count₀ buf count = bytes - count
 
-loop-holds : tie.Need-loop-holds Inv-loop μ-loop
-loop-holds c = search needs
-
-sub-least : tie.Need-sub-least Inv-loop μ-loop
-sub-least c = search needs
-
-least-requires : tie.Need-least-requires Inv-loop μ-loop
-least-requires c κs = search needs
-
-slice-relend-prefix-read-some : tie.Need-slice-relend-prefix-read-some Inv-loop μ-loop
-slice-relend-prefix-read-some c = search needs
-
 slice-aggregate-read-some : tie.Need-slice-aggregate-read-some Inv-loop μ-loop
 slice-aggregate-read-some c =
     let p = c .before .least in
     omega (arith, p .ensures .1, length-take (p .result) (c .before .before .before .loop .buf))
-
-read-some-requires : tie.Need-read-some-requires Inv-loop μ-loop
-read-some-requires c κs = search needs
-
-enum-known-more : tie.Need-enum-known-more Inv-loop μ-loop
-enum-known-more c = search needs
 
 add-count : tie.Need-add-count Inv-loop μ-loop
 add-count c =
@@ -60,35 +42,11 @@ loop-again c =
     let k = some-bytes _ _ _ (c .before .more .given .1) (r .read-some .ensures) in
     omega (arith, k .0, k .1, p .ensures .0, c .before .before .before .before .buf .given .0, length-take (p .result) (r .before .before .before .before .loop .buf))
 
-enum-told : tie.Need-enum-told Inv-loop μ-loop
-enum-told c = search needs
-
-came-requires : tie.Need-came-requires Inv-loop μ-loop
-came-requires c κs = search needs
-
-same-length : tie.Need-same-length Inv-loop μ-loop
-same-length c = search needs
-
 returns : tie.Need-returns Inv-loop μ-loop
 returns c = record { most = omega arith; short = λ e. absurd (false≢true (sym (c .came .ensures .1) ∙ e)) }
 
-enum-told-2 : tie.Need-enum-told-2 Inv-loop μ-loop
-enum-told-2 c = search needs
-
-came-requires-2 : tie.Need-came-requires-2 Inv-loop μ-loop
-came-requires-2 c κs = search needs
-
-same-length-2 : tie.Need-same-length-2 Inv-loop μ-loop
-same-length-2 c = search needs
-
 returns-2 : tie.Need-returns-2 Inv-loop μ-loop
 returns-2 c = record { most = omega arith; short = λ e. omega arith }
-
-came-requires-3 : tie.Need-came-requires-3 Inv-loop μ-loop
-came-requires-3 c κs = search needs
-
-same-length-3 : tie.Need-same-length-3 Inv-loop μ-loop
-same-length-3 c = search needs
 
 returns-3 : tie.Need-returns-3 Inv-loop μ-loop
 returns-3 c = record { most = omega arith; short = λ e. absurd (false≢true (sym (c .came3 .ensures .1) ∙ e)) }
@@ -99,24 +57,24 @@ skip-spec =
     (tie.spec
     Inv-loop
     μ-loop
-    loop-holds
-    sub-least
-    least-requires
-    slice-relend-prefix-read-some
+    (λ c. search needs)
+    (λ c. search needs)
+    (λ c κs. search needs)
+    (λ c. search needs)
     slice-aggregate-read-some
-    read-some-requires
-    enum-known-more
+    (λ c κs. search needs)
+    (λ c. search needs)
     add-count
     loop-less
     loop-again
-    enum-told
-    came-requires
-    same-length
+    (λ c. search needs)
+    (λ c κs. search needs)
+    (λ c. search needs)
     returns
-    enum-told-2
-    came-requires-2
-    same-length-2
+    (λ c. search needs)
+    (λ c κs. search needs)
+    (λ c. search needs)
     returns-2
-    came-requires-3
-    same-length-3
+    (λ c κs. search needs)
+    (λ c. search needs)
     returns-3)

@@ -11,15 +11,9 @@ use Rattle.text.proofs.Overlaid.{one, laid-length}
 use Rattle.text.proofs.put_byte.Statement.{statement}
 use Rattle.text.proofs.put_byte.Tie as tie
 
-slice-write-out : tie.Need-slice-write-out
-slice-write-out c = search needs
-
 -- past the end a store is none
 stored : (c : tie.Joined1) → c .if1 .out ≡ set (c .before .args .out .now) (c .before .args .at) (c .before .args .b)
 stored c = ⊎-elim (λ w. w .1) (λ w. w .1 ∙ sym (set-out _ _ _ (w .0 .left))) (c .if1 .came)
-
-add-result : tie.Need-add-result
-add-result c = search needs
 
 returns : tie.Need-returns
 returns c = let a = c .before .before .args in one (a .out .now) (c .before .if1 .out) (a .at) (a .at + 1) (a .b) (omega arith) (stored (c .before)) (omega arith)
@@ -35,4 +29,4 @@ same-length-2 c = laid-length (returns-2 c)
 
 pub put-byte-spec : {M : Type 1} → statement M
 put-byte-spec =
-    tie.close (tie.spec slice-write-out add-result same-length returns same-length-2 returns-2)
+    tie.close (tie.spec (λ c. search needs) (λ c. search needs) same-length returns same-length-2 returns-2)

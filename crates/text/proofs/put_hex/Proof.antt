@@ -38,9 +38,6 @@ shr-high c = omega (arith, c .before .loop .inv .0, c .before .loop .inv .1)
 digit-requires : tie.Need-digit-requires Inv-loop μ-loop
 digit-requires c κs = omega arith
 
-put-byte-requires : tie.Need-put-byte-requires Inv-loop μ-loop
-put-byte-requires c κs = search needs
-
 loop-less : tie.Need-loop-less Inv-loop μ-loop
 loop-less c = omega arith
 
@@ -75,7 +72,7 @@ put-hex-spec =
     mul-high
     shr-high
     digit-requires
-    put-byte-requires
+    (λ c κs. search needs)
     loop-less
     loop-again
     same-length

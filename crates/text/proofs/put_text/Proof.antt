@@ -23,9 +23,6 @@ loop-holds c = (omega arith, none _ _ (omega arith) (omega arith))
 shared-slice-read-put-byte : tie.Need-shared-slice-read-put-byte Inv-loop μ-loop
 shared-slice-read-put-byte c = omega arith
 
-put-byte-requires : tie.Need-put-byte-requires Inv-loop μ-loop
-put-byte-requires c κs = search needs
-
 add-i : tie.Need-add-i Inv-loop μ-loop
 add-i c = omega arith
 
@@ -55,7 +52,7 @@ put-text-spec =
     μ-loop
     loop-holds
     shared-slice-read-put-byte
-    put-byte-requires
+    (λ c κs. search needs)
     add-i
     loop-less
     loop-again

@@ -4,11 +4,8 @@ use borrow.Author.Needs.{needs}
 use Rattle.walking.proofs.begin.Statement.{statement}
 use Rattle.walking.proofs.begin.Tie as tie
 
-check-requires : tie.Need-check-requires
-check-requires c κs = search needs
-
 returns : tie.Need-returns
 returns c = cc
 
 pub begin-spec : {M : Type 1} → statement M
-begin-spec = tie.close (tie.spec check-requires returns)
+begin-spec = tie.close (tie.spec (λ c κs. search needs) returns)

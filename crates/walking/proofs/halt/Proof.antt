@@ -4,11 +4,8 @@ use borrow.Author.Needs.{needs}
 use Rattle.walking.proofs.halt.Statement.{statement}
 use Rattle.walking.proofs.halt.Tie as tie
 
-even-requires : tie.Need-even-requires
-even-requires c κs = search needs
-
 returns : tie.Need-returns
 returns c = cc
 
 pub halt-spec : {M : Type 1} → statement M
-halt-spec = tie.close (tie.spec even-requires returns)
+halt-spec = tie.close (tie.spec (λ c κs. search needs) returns)

@@ -6,17 +6,8 @@ use Rattle.walking.proofs.Next.{first-stays, refused-stays, other-stays
 use Rattle.walking.proofs.next_frame.Statement.{statement}
 use Rattle.walking.proofs.next_frame.Tie as tie
 
-frame-of-requires : tie.Need-frame-of-requires
-frame-of-requires c κs = search needs
-
 returns : tie.Need-returns
 returns c = let framed = c .before in first-stays _ _ _ _ (framed .frame-of .ensures (framed .before .before .before .before .pre)) (c .if1 .taken)
-
-enum-told : tie.Need-enum-told
-enum-told c = search needs
-
-enum-told-2 : tie.Need-enum-told-2
-enum-told-2 c = search needs
 
 returns-2 : tie.Need-returns-2
 returns-2 c =
@@ -38,4 +29,4 @@ returns-4 c =
 pub next-frame-spec : {M : Type 1} → statement M
 next-frame-spec =
     tie.close
-    (tie.spec frame-of-requires returns enum-told enum-told-2 returns-2 returns-3 returns-4)
+    (tie.spec (λ c κs. search needs) returns (λ c. search needs) (λ c. search needs) returns-2 returns-3 returns-4)

@@ -9,34 +9,13 @@ use Rattle.walking.proofs.Turns.{as-turn, answer-codes}
 use Rattle.walking.proofs.step.Statement.{statement}
 use Rattle.walking.proofs.step.Tie as tie
 
-halt-requires : tie.Need-halt-requires
-halt-requires c κs = search needs
-
 returns : tie.Need-returns
 returns c = c .halt .ensures ∙ as-turn _ _ _ (at-end (c .before .if1 .taken))
-
-halt-requires-2 : tie.Need-halt-requires-2
-halt-requires-2 c κs = search needs
 
 returns-2 : tie.Need-returns-2
 returns-2 c =
     let a = c .before .before .before .before .before .before .args in
     c .halt2 .ensures ∙ as-turn _ (a .room) (a .s) (at-full (c .before .before .if1 .left) (omega (arith, c .before .if2 .taken)))
-
-next-frame-requires : tie.Need-next-frame-requires
-next-frame-requires c κs = search needs
-
-enum-known-v : tie.Need-enum-known-v
-enum-known-v c = search needs
-
-even-requires : tie.Need-even-requires
-even-requires c κs = search needs
-
-halt-requires-3 : tie.Need-halt-requires-3
-halt-requires-3 c κs = search needs
-
-enum-told : tie.Need-enum-told
-enum-told c = search needs
 
 advance-requires : tie.Need-advance-requires
 advance-requires c κs =
@@ -61,15 +40,15 @@ pub step-spec : {M : Type 1} → statement M
 step-spec =
     tie.close
     (tie.spec
-    halt-requires
+    (λ c κs. search needs)
     returns
-    halt-requires-2
+    (λ c κs. search needs)
     returns-2
-    next-frame-requires
-    enum-known-v
-    even-requires
-    halt-requires-3
-    enum-told
+    (λ c κs. search needs)
+    (λ c. search needs)
+    (λ c κs. search needs)
+    (λ c κs. search needs)
+    (λ c. search needs)
     advance-requires
     returns-3
     returns-4)

@@ -9,17 +9,11 @@ use Rattle.words.proofs.bits.Tie as tie
 returns : tie.Need-returns
 returns c = let a = c .before .args in (none-above (a .word) (a .low) (a .width) (search needs) (c .if1 .taken), some (a .width))
 
-shr-high : tie.Need-shr-high
-shr-high c = search needs
-
 returns-2 : tie.Need-returns-2
 returns-2 c =
     let a = c .before .before .args in
     let e = all-of (a .word) (a .low) (a .width) (search needs) (c .if2 .taken) in
     (e, subst (λ x. x < 2 ^ a .width) (sym e) (below (a .word) (a .low) (a .width)))
-
-shl-result : tie.Need-shl-result
-shl-result c = search needs
 
 rem-result : tie.Need-rem-result
 rem-result c =
@@ -33,4 +27,4 @@ returns-3 c =
     (e, subst (λ x. x < 2 ^ a .width) (sym e) (below (a .word) (a .low) (a .width)))
 
 pub bits-spec : {M : Type 1} → statement M
-bits-spec = tie.close (tie.spec returns shr-high returns-2 shl-result rem-result returns-3)
+bits-spec = tie.close (tie.spec returns (λ c. search needs) returns-2 (λ c. search needs) rem-result returns-3)

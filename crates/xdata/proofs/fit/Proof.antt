@@ -6,9 +6,6 @@ use Rattle.words.proofs.Tests.{and-true}
 use Rattle.xdata.proofs.fit.Statement.{statement}
 use Rattle.xdata.proofs.fit.Tie as tie
 
-add-result : tie.Need-add-result
-add-result c = search needs
-
 returns : tie.Need-returns
 returns c = and-true _ (eq-eqb _ _ (c .if1 .taken))
 
@@ -16,4 +13,4 @@ returns-2 : tie.Need-returns-2
 returns-2 c = rw (ne-eqb _ _ (c .if1 .left)) refl
 
 pub fit-spec : {M : Type 1} → statement M
-fit-spec = tie.close (tie.spec add-result returns returns-2)
+fit-spec = tie.close (tie.spec (λ c. search needs) returns returns-2)

@@ -8,18 +8,6 @@ use Rattle.words.proofs.Tests.{if-true, if-false}
 use Rattle.xdata.proofs.handler_of.Statement.{statement}
 use Rattle.xdata.proofs.handler_of.Tie as tie
 
-has-handler-requires : tie.Need-has-handler-requires
-has-handler-requires c κs = search needs
-
-handler-offset-requires : tie.Need-handler-offset-requires
-handler-offset-requires c κs = search needs
-
-add-word-at : tie.Need-add-word-at
-add-word-at c = search needs
-
-word-at-requires : tie.Need-word-at-requires
-word-at-requires c κs = search needs
-
 returns : tie.Need-returns
 returns c =
     let a = c .before .before .before .before .before .args in
@@ -36,9 +24,9 @@ pub handler-of-spec : {M : Type 1} → statement M
 handler-of-spec =
     tie.close
     (tie.spec
-    has-handler-requires
-    handler-offset-requires
-    add-word-at
-    word-at-requires
+    (λ c κs. search needs)
+    (λ c κs. search needs)
+    (λ c. search needs)
+    (λ c κs. search needs)
     returns
     returns-2)

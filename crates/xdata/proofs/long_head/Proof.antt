@@ -15,9 +15,6 @@ returns c =
     c .no-head .ensures
     ∙ ap headRead (sym (long-outside (lent (a .rva) (a .xdata .now)) (a .at) (a .word) (sym (c .before .before .holds .ensures) ∙ not-true _ (c .before .if1 .taken))))
 
-add-word-at : tie.Need-add-word-at
-add-word-at c = search needs
-
 -- the .xdata; the extension word is lent where it is read
 abbrev bytes : tie.After-word-at → Lent
 bytes c = let a = c .before .before .before .before .args in lent (a .rva) (a .xdata .now)
@@ -45,7 +42,7 @@ long-head-spec =
     (λ c κs. tt)
     (λ c κs. tt)
     returns
-    add-word-at
+    (λ c. search needs)
     (λ c κs. tt)
     (λ c κs. tt)
     (λ c κs. tt)

@@ -8,23 +8,11 @@ use Rattle.words.proofs.Tests.{if-true, if-false}
 use Rattle.xdata.proofs.record_bytes.Statement.{statement}
 use Rattle.xdata.proofs.record_bytes.Tie as tie
 
-has-handler-requires : tie.Need-has-handler-requires
-has-handler-requires c κs = search needs
-
-handler-offset-requires : tie.Need-handler-offset-requires
-handler-offset-requires c κs = search needs
-
-add-result : tie.Need-add-result
-add-result c = search needs
-
 returns : tie.Need-returns
 returns c =
     let h = c .before .before .before .args .h in
     ap (λ n. n + 4) (c .handler-offset .ensures .0)
     ∙ ap (λ n. handlerOffset h + n) (if-true 4 0 (sym (c .before .before .has-handler .ensures) ∙ c .before .if1 .taken))
-
-handler-offset-requires-2 : tie.Need-handler-offset-requires-2
-handler-offset-requires-2 c κs = search needs
 
 returns-2 : tie.Need-returns-2
 returns-2 c =
@@ -38,9 +26,9 @@ pub record-bytes-spec : {M : Type 1} → statement M
 record-bytes-spec =
     tie.close
     (tie.spec
-    has-handler-requires
-    handler-offset-requires
-    add-result
+    (λ c κs. search needs)
+    (λ c κs. search needs)
+    (λ c. search needs)
     returns
-    handler-offset-requires-2
+    (λ c κs. search needs)
     returns-2)

@@ -20,24 +20,12 @@ loop-holds c =
     let z : a .n ≡ a .n - 0 = omega arith in
     (omega arith, ap (resZero (a .xdata .now) (a .at) 0) z)
 
-word-after-requires : tie.Need-word-after-requires Inv-loop μ-loop
-word-after-requires c κs = search needs
-
-bits-requires : tie.Need-bits-requires Inv-loop μ-loop
-bits-requires c κs = search needs
-
 returns : tie.Need-returns Inv-loop μ-loop
 returns c =
     let a = c .before .before .before .before .before .before .args in
     let l = c .before .before .before .before .loop in
     let z = rw (c .before .bits .ensures .0) at (c .if1 .taken) in
     sym (l .inv .1 ∙ res-stops (a .xdata .now) (a .at) (l .k) (a .n) _ (c .before .before .before .loop-test .taken) (c .before .before .word-after .ensures) z)
-
-add-k : tie.Need-add-k Inv-loop μ-loop
-add-k c = search needs
-
-loop-less : tie.Need-loop-less Inv-loop μ-loop
-loop-less c = search needs
 
 loop-again : tie.Need-loop-again Inv-loop μ-loop
 loop-again c =
@@ -59,10 +47,10 @@ res-zero-spec =
     Inv-loop
     μ-loop
     loop-holds
-    word-after-requires
-    bits-requires
+    (λ c κs. search needs)
+    (λ c κs. search needs)
     returns
-    add-k
-    loop-less
+    (λ c. search needs)
+    (λ c. search needs)
     loop-again
     returns-2)

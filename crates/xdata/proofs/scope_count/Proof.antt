@@ -5,9 +5,6 @@ use Rattle.words.proofs.Tests.{if-true, if-false}
 use Rattle.xdata.proofs.scope_count.Statement.{statement}
 use Rattle.xdata.proofs.scope_count.Tie as tie
 
-has-last-requires : tie.Need-has-last-requires
-has-last-requires c κs = search needs
-
 returns : tie.Need-returns
 returns c =
     let h = c .before .before .args .h in
@@ -19,4 +16,4 @@ returns-2 c =
     if-false 0 (h .count) (sym (c .before .has-last .ensures) ∙ c .if1 .left)
 
 pub scope-count-spec : {M : Type 1} → statement M
-scope-count-spec = tie.close (tie.spec has-last-requires returns returns-2)
+scope-count-spec = tie.close (tie.spec (λ c κs. search needs) returns returns-2)

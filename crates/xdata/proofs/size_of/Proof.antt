@@ -5,14 +5,8 @@ use Rattle.words.specs.declared.Verdict.the-variants.{Given}
 use Rattle.xdata.proofs.size_of.Statement.{statement}
 use Rattle.xdata.proofs.size_of.Tie as tie
 
-record-bytes-requires : tie.Need-record-bytes-requires
-record-bytes-requires c κs = search needs
-
-cast-t4 : tie.Need-cast-t4
-cast-t4 c = search needs
-
 returns : tie.Need-returns
 returns c = ap (λ n. record { verdict = Given; bytes = n }) (c .record-bytes .ensures)
 
 pub size-of-spec : {M : Type 1} → statement M
-size-of-spec = tie.close (tie.spec record-bytes-requires cast-t4 returns)
+size-of-spec = tie.close (tie.spec (λ c κs. search needs) (λ c. search needs) returns)

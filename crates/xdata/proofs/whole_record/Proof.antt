@@ -7,19 +7,10 @@ use Rattle.xdata.proofs.Heads.{whole-given, whole-outside}
 use Rattle.xdata.proofs.whole_record.Statement.{statement}
 use Rattle.xdata.proofs.whole_record.Tie as tie
 
-record-bytes-requires : tie.Need-record-bytes-requires
-record-bytes-requires c κs = search needs
-
-holds-requires : tie.Need-holds-requires
-holds-requires c κs = search needs
-
 returns : tie.Need-returns
 returns c =
     let a = c .before .before .before .before .args in
     ap headRead (sym (whole-given (lent (a .rva) (a .xdata .now)) (a .at) (a .h) (ap (holds (lent (a .rva) (a .xdata .now)) (a .at)) (sym (c .before .before .record-bytes .ensures)) ∙ sym (c .before .holds .ensures) ∙ c .if1 .taken)))
-
-no-head-requires : tie.Need-no-head-requires
-no-head-requires c κs = search needs
 
 returns-2 : tie.Need-returns-2
 returns-2 c =
@@ -29,4 +20,4 @@ returns-2 c =
 
 pub whole-record-spec : {M : Type 1} → statement M
 whole-record-spec =
-    tie.close (tie.spec record-bytes-requires holds-requires returns no-head-requires returns-2)
+    tie.close (tie.spec (λ c κs. search needs) (λ c κs. search needs) returns (λ c κs. search needs) returns-2)

@@ -10,38 +10,17 @@ use Rattle.xdata.proofs.Heads.{read-given, read-refused, head-small, sm
 use Rattle.xdata.proofs.xdata_size.Statement.{statement}
 use Rattle.xdata.proofs.xdata_size.Tie as tie
 
-fit-requires : tie.Need-fit-requires
-fit-requires c κs = search needs
-
-no-size-requires : tie.Need-no-size-requires
-no-size-requires c κs = search needs
-
 returns : tie.Need-returns
 returns c =
     let a = c .before .before .before .before .args in
     c .no-size .ensures
     ∙ ap sizeAnswer (sym (size-unfit (lent (a .rva) (a .xdata .now)) (a .at) (sym (c .before .before .fit .ensures) ∙ not-true _ (c .before .if1 .taken))))
 
-sub-head-at : tie.Need-sub-head-at
-sub-head-at c = search needs
-
-head-at-requires : tie.Need-head-at-requires
-head-at-requires c κs = search needs
-
-enum-told : tie.Need-enum-told
-enum-told c = search needs
-
 size-of-requires : tie.Need-size-of-requires
 size-of-requires c κs =
     let a = c .before .before .before .before .before .before .args in
     let h = c .before .before .head-at .result .head in
     omega (arith, small-record (lent (a .rva) (a .xdata .now)) (a .at - a .at % 4) h (head-small (lent (a .rva) (a .xdata .now)) (a .at - a .at % 4) h (read-given (headAt (lent (a .rva) (a .xdata .now)) (a .at - a .at % 4)) (c .before .before .head-at .result) (c .before .before .head-at .ensures) (c .enum-told .given .1))))
-
-enum-known-verdict : tie.Need-enum-known-verdict
-enum-known-verdict c = search needs
-
-no-size-requires-2 : tie.Need-no-size-requires-2
-no-size-requires-2 c κs = search needs
 
 returns-2 : tie.Need-returns-2
 returns-2 c =
@@ -60,14 +39,14 @@ pub xdata-size-spec : {M : Type 1} → statement M
 xdata-size-spec =
     tie.close
     (tie.spec
-    fit-requires
-    no-size-requires
+    (λ c κs. search needs)
+    (λ c κs. search needs)
     returns
-    sub-head-at
-    head-at-requires
-    enum-told
+    (λ c. search needs)
+    (λ c κs. search needs)
+    (λ c. search needs)
     size-of-requires
-    enum-known-verdict
-    no-size-requires-2
+    (λ c. search needs)
+    (λ c κs. search needs)
     returns-2
     returns-3)

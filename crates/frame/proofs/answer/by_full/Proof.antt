@@ -16,9 +16,6 @@ use Rattle.frame.proofs.answer.by_full.Tie as tie
 use Rattle.frame.proofs.answer.from_placed.Reads as from-placed-reads
 use Rattle.place.proofs.full.Reads as full-reads
 
-full-requires : tie.Need-full-requires
-full-requires c κs = search needs
-
 add-end : tie.Need-add-end
 add-end c =
     let y = c .before .before in
@@ -26,21 +23,12 @@ add-end c =
     let f = fullAnswer (fullPlan (lent (a .rva) (a .xdata .now)) (a .at)) in
     omega (arith, full-inside (a .rva) (a .xdata .now) (a .at) f refl, ap (λ q. q .codes .start) (y .full .ensures), ap (λ q. q .codes .len) (y .full .ensures))
 
-sub-from-placed : tie.Need-sub-from-placed
-sub-from-placed c = search needs
-
-part-from-placed-start : tie.Need-part-from-placed-start
-part-from-placed-start c = search needs
-
 part-from-placed-end : tie.Need-part-from-placed-end
 part-from-placed-end c =
     let y = c .before .before in
     let a = y .before .before .before .args in
     let f = fullAnswer (fullPlan (lent (a .rva) (a .xdata .now)) (a .at)) in
     omega (arith, full-inside (a .rva) (a .xdata .now) (a .at) f refl, ap (λ q. q .codes .start) (y .full .ensures), ap (λ q. q .codes .len) (y .full .ensures))
-
-from-placed-requires : tie.Need-from-placed-requires
-from-placed-requires c κs = search needs
 
 returns : tie.Need-returns
 returns c =
@@ -59,10 +47,10 @@ pub by-full-spec : {M : Type 1} → statement M
 by-full-spec =
     tie.close
     (tie.spec
-    full-requires
+    (λ c κs. search needs)
     add-end
-    sub-from-placed
-    part-from-placed-start
+    (λ c. search needs)
+    (λ c. search needs)
     part-from-placed-end
-    from-placed-requires
+    (λ c κs. search needs)
     returns)

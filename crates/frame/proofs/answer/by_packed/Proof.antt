@@ -11,15 +11,6 @@ use Rattle.frame.proofs.answer.by_packed.Tie as tie
 use Rattle.frame.proofs.answer.from_placed.Reads as from-placed-reads
 use Rattle.place.proofs.packed.Reads as packed-reads
 
-packed-requires : tie.Need-packed-requires
-packed-requires c κs = search needs
-
-slice-aggregate-from-placed : tie.Need-slice-aggregate-from-placed
-slice-aggregate-from-placed c = search needs
-
-from-placed-requires : tie.Need-from-placed-requires
-from-placed-requires c κs = search needs
-
 returns : tie.Need-returns
 returns c =
     let y = c .before .before .before in
@@ -31,4 +22,4 @@ returns c =
 
 pub by-packed-spec : {M : Type 1} → statement M
 by-packed-spec =
-    tie.close (tie.spec packed-requires slice-aggregate-from-placed from-placed-requires returns)
+    tie.close (tie.spec (λ c κs. search needs) (λ c. search needs) (λ c κs. search needs) returns)

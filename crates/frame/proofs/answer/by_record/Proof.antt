@@ -11,20 +11,11 @@ use Rattle.frame.proofs.answer.by_full.Reads as by-full-reads
 use Rattle.frame.proofs.answer.by_packed.Reads as by-packed-reads
 use Rattle.frame.proofs.answer.offset_of.Reads as offset-of-reads
 
-offset-of-requires : tie.Need-offset-of-requires
-offset-of-requires c κs = search needs
-
-by-full-requires : tie.Need-by-full-requires
-by-full-requires c κs = search needs
-
 returns : tie.Need-returns
 returns c =
     let y = c .before .before in
     let a = y .before .before .before .args in
     λ p. c .by-full .ensures ∙ ap (unwound (a .g)) (record-full (a .first) (a .image) p (a .rva) (a .xdata .now) (a .base) (a .stack .now) (a .e) (a .g) (y .offset-of .result) (omega (arith, c .before .if1 .taken)) (y .offset-of .ensures))
-
-by-packed-requires : tie.Need-by-packed-requires
-by-packed-requires c κs = search needs
 
 returns-2 : tie.Need-returns-2
 returns-2 c =
@@ -34,4 +25,4 @@ returns-2 c =
 
 pub by-record-spec : {M : Type 1} → statement M
 by-record-spec =
-    tie.close (tie.spec offset-of-requires by-full-requires returns by-packed-requires returns-2)
+    tie.close (tie.spec (λ c κs. search needs) (λ c κs. search needs) returns (λ c κs. search needs) returns-2)

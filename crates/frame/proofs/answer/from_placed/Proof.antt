@@ -10,25 +10,10 @@ use Rattle.frame.proofs.answer.ran_from.Reads as ran-from-reads
 use Rattle.frame.proofs.answer.refused.Reads as refused-reads
 use Rattle.frame.proofs.answer.uncovered.Reads as uncovered-reads
 
-enum-known-verdict : tie.Need-enum-known-verdict
-enum-known-verdict c = search needs
-
-refused-requires : tie.Need-refused-requires
-refused-requires c κs = search needs
-
-enum-told : tie.Need-enum-told
-enum-told c = search needs
-
-ran-from-requires : tie.Need-ran-from-requires
-ran-from-requires c κs = search needs
-
 returns : tie.Need-returns
 returns c =
     let a = c .before .before .before .before .before .before .args in
     c .ran-from .ensures ∙ sym (ap (unwound (a .g)) (ap₂ (placedFrom (a .first) (lent (a .base) (a .stack .now)) (a .codes .now) (a .p .handler) (a .g) (a .p .place) (a .p .index)) (c .before .if1 .taken) (c .before .before .enum-told .given .1)))
-
-uncovered-requires : tie.Need-uncovered-requires
-uncovered-requires c κs = search needs
 
 returns-2 : tie.Need-returns-2
 returns-2 c =
@@ -44,11 +29,11 @@ pub from-placed-spec : {M : Type 1} → statement M
 from-placed-spec =
     tie.close
     (tie.spec
-    enum-known-verdict
-    refused-requires
-    enum-told
-    ran-from-requires
+    (λ c. search needs)
+    (λ c κs. search needs)
+    (λ c. search needs)
+    (λ c κs. search needs)
     returns
-    uncovered-requires
+    (λ c κs. search needs)
     returns-2
     returns-3)

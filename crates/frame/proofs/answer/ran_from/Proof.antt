@@ -17,21 +17,6 @@ use Rattle.frame.proofs.answer.refused.Reads as refused-reads
 use Rattle.frame.proofs.answer.returned.Reads as returned-reads
 use Rattle.machine.proofs.run.Reads as run-reads
 
-run-requires : tie.Need-run-requires
-run-requires c κs = search needs
-
-enum-known-verdict : tie.Need-enum-known-verdict
-enum-known-verdict c = search needs
-
-refused-requires : tie.Need-refused-requires
-refused-requires c κs = search needs
-
-enum-told : tie.Need-enum-told
-enum-told c = search needs
-
-refused-requires-2 : tie.Need-refused-requires-2
-refused-requires-2 c κs = search needs
-
 returns : tie.Need-returns
 returns c =
     let y = c .before .before .before .before .before .before .before in
@@ -41,9 +26,6 @@ returns c =
     let n = length (scan s (a .index) .list) in
     let ok = ran-given (a .g) n (runAt k s (a .index) (a .g)) (y .run .result) (y .run .ensures) (c .before .before .before .before .before .enum-told .given .1) in
     c .refused2 .ensures ∙ sym (ap (unwound (a .g)) (ran-fell k s (a .handler) (a .g) (a .place) (a .index) (y .run .result .regs) (ok .0) (c .before .if1 .taken)))
-
-returned-requires : tie.Need-returned-requires
-returned-requires c κs = search needs
 
 returns-2 : tie.Need-returns-2
 returns-2 c =
@@ -71,12 +53,12 @@ pub ran-from-spec : {M : Type 1} → statement M
 ran-from-spec =
     tie.close
     (tie.spec
-    run-requires
-    enum-known-verdict
-    refused-requires
-    enum-told
-    refused-requires-2
+    (λ c κs. search needs)
+    (λ c. search needs)
+    (λ c κs. search needs)
+    (λ c. search needs)
+    (λ c κs. search needs)
     returns
-    returned-requires
+    (λ c κs. search needs)
     returns-2
     returns-3)

@@ -5,11 +5,8 @@ use Rattle.frame.proofs.answer.returned.Statement.{statement}
 use Rattle.frame.proofs.answer.returned.Tie as tie
 use Rattle.words.proofs.even.Reads as even-reads
 
-even-requires : tie.Need-even-requires
-even-requires c κs = search needs
-
 returns : tie.Need-returns
 returns c = simp (c .even .ensures)
 
 pub returned-spec : {M : Type 1} → statement M
-returned-spec = tie.close (tie.spec even-requires returns)
+returned-spec = tie.close (tie.spec (λ c κs. search needs) returns)

@@ -11,9 +11,6 @@ use Rattle.place.proofs.layout.epilogue_span.Tie as tie
 use Rattle.place.proofs.layout.bytes_of.Reads as bytes-of-reads
 use Rattle.place.proofs.layout.start_of.Reads as start-of-reads
 
-enum-known-found : tie.Need-enum-known-found
-enum-known-found c = search needs
-
 add-bytes-of : tie.Need-add-bytes-of
 add-bytes-of c =
     let z = c .before .before .before .before in
@@ -27,12 +24,6 @@ bytes-of-requires c κs =
     let f = z .pre .0 in
     let m = scanned-ends (f .0) (z .args .e .index) _ _ (sym (f .2) ∙ c .before .found .given .1) in
     omega (arith, m .few, f .1)
-
-start-of-requires : tie.Need-start-of-requires
-start-of-requires c κs = search needs
-
-enum-known-found-2 : tie.Need-enum-known-found-2
-enum-known-found-2 c = search needs
 
 returns : tie.Need-returns
 returns c =
@@ -54,10 +45,10 @@ pub epilogue-span-spec : {M : Type 1} → statement M
 epilogue-span-spec =
     tie.close
     (tie.spec
-    enum-known-found
+    (λ c. search needs)
     add-bytes-of
     bytes-of-requires
-    start-of-requires
-    enum-known-found-2
+    (λ c κs. search needs)
+    (λ c. search needs)
     returns
     returns-2)

@@ -5,18 +5,6 @@ use Rattle.place.proofs.layout.here_of.Statement.{statement}
 use Rattle.place.proofs.layout.here_of.Tie as tie
 use Rattle.place.proofs.layout.falls.Reads as falls-reads
 
-enum-told : tie.Need-enum-told
-enum-told c = search needs
-
-enum-told-2 : tie.Need-enum-told-2
-enum-told-2 c = search needs
-
-falls-requires : tie.Need-falls-requires
-falls-requires c κs = search needs
-
-returns : tie.Need-returns
-returns c = search needs
-
 returns-2 : tie.Need-returns-2
 returns-2 c = simp (c .before .before .enum-told2 .given .1, ← c .before .before .before .before .pre, ← c .before .falls .ensures, c .if1 .taken)
 
@@ -24,4 +12,4 @@ returns-3 : tie.Need-returns-3
 returns-3 c = simp (c .before .before .enum-told2 .given .1, ← c .before .before .before .before .pre, ← c .before .falls .ensures, c .if1 .left)
 
 pub here-of-spec : {M : Type 1} → statement M
-here-of-spec = tie.close (tie.spec enum-told enum-told-2 falls-requires returns returns-2 returns-3)
+here-of-spec = tie.close (tie.spec (λ c. search needs) (λ c. search needs) (λ c κs. search needs) (λ c. search needs) returns-2 returns-3)

@@ -5,21 +5,12 @@ use borrow.Author.Needs.{needs}
 use Rattle.place.proofs.layout.judged.Statement.{statement}
 use Rattle.place.proofs.layout.judged.Tie as tie
 
-enum-known-looked : tie.Need-enum-known-looked
-enum-known-looked c = search needs
-
-enum-known-looked-2 : tie.Need-enum-known-looked-2
-enum-known-looked-2 c = search needs
-
 returns : tie.Need-returns
 returns c = ap judged (sym (c .before .looked .given .1))
-
-returns-2 : tie.Need-returns-2
-returns-2 c = search needs
 
 returns-3 : tie.Need-returns-3
 returns-3 c = simp (c .before .before .looked2 .given .1, c .if1 .left)
 
 pub judged-spec : {M : Type 1} → statement M
 judged-spec =
-    tie.close (tie.spec enum-known-looked enum-known-looked-2 returns returns-2 returns-3)
+    tie.close (tie.spec (λ c. search needs) (λ c. search needs) returns (λ c. search needs) returns-3)

@@ -27,20 +27,11 @@ Inv-loop codes plan xdata o span n s₀ last₀ at₀ k₀ s last at k =
 abbrev μ-loop : tie.MeasureT-loop
 μ-loop codes plan xdata o span n s₀ last₀ at₀ k₀ s last at k = n - k
 
-span-of-requires : tie.Need-span-of-requires Inv-loop μ-loop
-span-of-requires c κs = search needs
-
-count-of-requires : tie.Need-count-of-requires Inv-loop μ-loop
-count-of-requires c κs = search needs
-
 loop-holds : tie.Need-loop-holds Inv-loop μ-loop
 loop-holds c =
     let a = c .before .before .before .before .args in
     let z : c .count-of .result - 0 ≡ c .count-of .result = omega arith in
     (omega arith, ap (λ k. lookFrom (a .codes .now) (c .before .span-of .result) (a .o) (a .seen) (scopesFrom (a .plan .scopes) (a .xdata .now) 0 k)) z, c .before .before .before .before .pre .1)
-
-scope-requires : tie.Need-scope-requires Inv-loop μ-loop
-scope-requires c κs = search needs
 
 rescan-requires : tie.Need-rescan-requires Inv-loop μ-loop
 rescan-requires c κs = c .before .before .before .loop .inv .2
@@ -51,14 +42,8 @@ epilogue-span-requires c κs =
     let z = f .before .before .before in
     ((z .args .codes .now, z .pre .0, c .rescan .ensures), f .span-of .ensures .1)
 
-enum-known-read : tie.Need-enum-known-read Inv-loop μ-loop
-enum-known-read c = search needs
-
 see-requires : tie.Need-see-requires Inv-loop μ-loop
 see-requires c κs = rw (c .before .read .given .1) at (c .before .before .before .epilogue-span .ensures .1)
-
-enum-known-read-2 : tie.Need-enum-known-read-2 Inv-loop μ-loop
-enum-known-read-2 c = search needs
 
 returns : tie.Need-returns Inv-loop μ-loop
 returns c =
@@ -117,15 +102,15 @@ look-spec =
     (tie.spec
     Inv-loop
     μ-loop
-    span-of-requires
-    count-of-requires
+    (λ c κs. search needs)
+    (λ c κs. search needs)
     loop-holds
-    scope-requires
+    (λ c κs. search needs)
     rescan-requires
     epilogue-span-requires
-    enum-known-read
+    (λ c. search needs)
     see-requires
-    enum-known-read-2
+    (λ c. search needs)
     returns
     add-k
     loop-less

@@ -14,11 +14,5 @@ returns c =
     let z = c .before .before .before .before in
     z .pre ∙ ap (λ i. scanned (scan (z .args .codes .now) (codeBytes i))) (sym (c .if1 .taken))
 
-scan-requires : tie.Need-scan-requires
-scan-requires c κs = search needs
-
-returns-2 : tie.Need-returns-2
-returns-2 c = search needs
-
 pub rescan-spec : {M : Type 1} → statement M
-rescan-spec = tie.close (tie.spec returns scan-requires returns-2)
+rescan-spec = tie.close (tie.spec returns (λ c κs. search needs) (λ c. search needs))

@@ -5,18 +5,6 @@ use borrow.Author.Needs.{needs}
 use Rattle.place.proofs.layout.start_of.Statement.{statement}
 use Rattle.place.proofs.layout.start_of.Tie as tie
 
-enum-known-start : tie.Need-enum-known-start
-enum-known-start c = search needs
-
-cast-result : tie.Need-cast-result
-cast-result c = search needs
-
-enum-told : tie.Need-enum-told
-enum-told c = search needs
-
-returns : tie.Need-returns
-returns c = search needs
-
 returns-2 : tie.Need-returns-2
 returns-2 c = (simp (c .before .enum-told .given .1), omega arith)
 
@@ -25,4 +13,4 @@ returns-3 c = (simp (c .before .enum-told .given .1) (omega arith), omega arith)
 
 pub start-of-spec : {M : Type 1} → statement M
 start-of-spec =
-    tie.close (tie.spec enum-known-start cast-result enum-told returns returns-2 returns-3)
+    tie.close (tie.spec (λ c. search needs) (λ c. search needs) (λ c. search needs) (λ c. search needs) returns-2 returns-3)
