@@ -161,7 +161,7 @@ pub fn by_record(
 {
     let o = offset_of(image, e.start, g.pc);
     let word = e.word;
-    if word % 4 == 0 {
+    if words::bits(word, 0, 2) == 0 {
         return by_full(first, rva, xdata, word, o, g, base, stack);
     }
     by_packed(first, word, o, g, base, stack)

@@ -11,7 +11,6 @@ use words::Place;
 use words::Refusal;
 use words::Verdict;
 ghost use mathlib.Core.Path.{_≡_};
-ghost use mathlib.Core.Bool.{_&&_};
 ghost use mathlib.Core.List.{List};
 ghost use mathlib.Core.Option.{Option};
 ghost use Prim.Native.Nat.{ℕ};
@@ -35,29 +34,7 @@ pub struct Unwound {
 fn fit_stack(base: u32, stack: &[u8]) -> bool
     ensures { λ r. ⌜ r ≡ fitStack (lent base (now (stack .entry))) ⌝ }
 {
-    let low = base as u64;
-    let len = stack.len() as u64;
-    if base % 4 != 0 {
-        return false;
-    }
-    if len % 4 != 0 {
-        return false;
-    }
-    if 4294967292 < len {
-        return false;
-    }
-    low + len <= 4294967292
-}
-
-fn all_three(a: bool, b: bool, c: bool) -> bool
-    ensures { λ r. ⌜ r ≡ (a && b && c) ⌝ }
-{
-    if a {
-        if b {
-            return c;
-        }
-    }
-    false
+    base % 4 == 0 && stack.len() % 4 == 0 && (base as u64) + (stack.len() as u64) <= 4294967292
 }
 
 // What the tables alone show, which a walk asks once.
@@ -66,7 +43,7 @@ pub fn check(pdata: &[u8], rva: u32, xdata: &[u8], base: u32, stack: &[u8]) -> C
 {
     let table = pdata::check(pdata);
     Checked {
-        fit: all_three(fit_stack(base, stack), xdata::fit(rva, xdata), table.fit),
+        fit: fit_stack(base, stack) && xdata::fit(rva, xdata) && table.fit,
         sorted: table.sorted,
     }
 }
