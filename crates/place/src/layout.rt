@@ -17,7 +17,7 @@ ghost use mathlib.Core.Bool.{_&&_, _||_};
 ghost use Prim.Native.Nat.{ℕ, _+_, _-_, _^_, _≤_, _<_};
 ghost use mathlib.Core.List.{List};
 ghost use lib.ListN.{length};
-ghost use lib.Dec.{leb, ltb};
+ghost use lib.Dec.{leb};
 ghost use Rattle.words.specs.Units.{codeBytes, halfwords, halfwordBytes};
 ghost use Rattle.words.specs.Answer.{verdict, if_then_else_};
 ghost use Rattle.unwinding.specs.View.{view};
@@ -83,22 +83,7 @@ fn epilogue_span(e: Scope, found: Scanned, span: u64) -> EpilogueRead
 fn in_line(span: u64, floor: u64, reach: u64, start: u64, end: u64) -> bool
     ensures { λ r. ⌜ r ≡ (leb floor start && leb end span && (leb end start || leb reach start)) ⌝ }
 {
-    if start < floor {
-        return false;
-    }
-    if span < end {
-        return false;
-    }
-    if end <= start {
-        return true;
-    }
-    reach <= start
-}
-
-fn both(a: bool, b: bool) -> bool
-    ensures { λ r. ⌜ r ≡ (a && b) ⌝ }
-{
-    if a { b } else { false }
+    floor <= start && end <= span && (end <= start || reach <= start)
 }
 
 // Where the last epilogue that is not empty ends.
@@ -106,13 +91,6 @@ fn reach_of(reach: u64, start: u64, end: u64) -> u64
     ensures { λ r. ⌜ r ≡ (if leb end start then reach else end) ⌝ }
 {
     if end <= start { reach } else { end }
-}
-
-// Whether an offset stands from start up to end.
-fn falls(o: u64, start: u64, end: u64) -> bool
-    ensures { λ r. ⌜ r ≡ (leb start o && ltb o end) ⌝ }
-{
-    if start <= o { o < end } else { false }
 }
 
 // The first epilogue that the offset falls into.
@@ -123,7 +101,7 @@ fn here_of(o: u64, here: Here, w: EpilogueSpan, end: u64) -> Here
     match here {
         Here::In(_) => here,
         Here::Miss => {
-            if falls(o, w.start, end) {
+            if w.start <= o && o < end {
                 Here::In(w)
             } else {
                 Here::Miss
@@ -143,7 +121,7 @@ fn see(span: u64, o: u64, s: Seen, w: EpilogueSpan) -> Seen
     Seen {
         floor: start + 1,
         reach: reach_of(s.reach, start, end),
-        fits: both(s.fits, in_line(span, s.floor, s.reach, start, end)),
+        fits: s.fits && in_line(span, s.floor, s.reach, start, end),
         here: here_of(o, here, w, end),
     }
 }

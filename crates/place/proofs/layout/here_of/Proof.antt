@@ -1,15 +1,23 @@
 -- An epilogue that was hit stays; else the test is the definition's.
 -- Assumes nothing.
+use mathlib.Core.Logic.{⊎-elim}
 use borrow.Author.Needs.{needs}
+use borrow.Author.Tests.{le-leb, lt-leb}
 use Rattle.place.proofs.layout.here_of.Statement.{statement}
 use Rattle.place.proofs.layout.here_of.Tie as tie
-use Rattle.place.proofs.layout.falls.Reads as falls-reads
 
 returns-2 : tie.Need-returns-2
-returns-2 c = simp (c .before .before .enum-told2 .given .1, ← c .before .before .before .before .pre, ← c .before .falls .ensures, c .if1 .taken)
+returns-2 c =
+    let m = c .before .before .before in
+    simp (m .enum-told2 .given .1, ← m .before .before .pre, le-leb _ _ (c .before .if1 .taken), c .if2 .taken)
 
 returns-3 : tie.Need-returns-3
-returns-3 c = simp (c .before .before .enum-told2 .given .1, ← c .before .before .before .before .pre, ← c .before .falls .ensures, c .if1 .left)
+returns-3 c =
+    let m = c .before .before in
+    ⊎-elim
+    (λ w. simp (m .enum-told2 .given .1, ← m .before .before .pre, le-leb _ _ (w .0 .taken), w .1 .left))
+    (λ w. simp (m .enum-told2 .given .1, lt-leb _ _ (w .left)))
+    (c .if1 .came)
 
 pub here-of-spec : {M : Type 1} → statement M
-here-of-spec = tie.close (tie.spec (λ c. search needs) (λ c. search needs) (λ c κs. search needs) (λ c. search needs) returns-2 returns-3)
+here-of-spec = tie.close (tie.spec (λ c. search needs) (λ c. search needs) (λ c. search needs) returns-2 returns-3)
