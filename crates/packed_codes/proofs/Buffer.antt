@@ -9,7 +9,7 @@ use lib.Seq.{set-append-seam, append-snoc, take-append-add}
 use native.Mathlib.Omega.{arith}
 use borrow.Author.Tests.{lt-ltb, le-ltb}
 use Rattle.packed_codes.specs.PackedCodes.{when}
-use Rattle.packed_codes.specs.as_coded.Out.{blank, putOf, puts}
+use Rattle.packed_codes.specs.as_coded.Out.{putOf, puts}
 use Rattle.packed_codes.specs.declared.Out.{Out}
 
 pub puts-none : (o : Out) → puts o [] ≡ o

@@ -1,6 +1,6 @@
 -- The codes that a packed word's lists are made of, by what its fields are.
 -- Assumes nothing.
-use Prim.Native.Nat.{ℕ, _+_, _*_, _/_, _%_, _≤_, _<_}
+use Prim.Native.Nat.{ℕ, suc, _+_, _-_, _*_, _/_, _%_, _≤_, _<_}
 use mathlib.Core.Path.{_≡_, refl, ap, _∙_}
 use mathlib.Core.List.{List, [], _∷_, _++_}
 use mathlib.Core.Bool.{Bool, true, false, _&&_, not}
@@ -10,8 +10,9 @@ use native.Mathlib.Omega.{arith}
 use borrow.Author.Tests.{ltb-true, eq-eqb, ne-eqb, le-leb, lt-leb}
 use Rattle.words.specs.Units.{stackWords}
 use Rattle.words.specs.Answer.{if_then_else_}
+use Rattle.codes.specs.Table.{range}
 use Rattle.packed.specs.Packed.{Fit, amount, folded, PF, EF, integers}
-use Rattle.packed_codes.specs.PackedCodes.{when, upCode, vpopCode, dForm, popSized, popCode, low, firstList, leave, secondList}
+use Rattle.packed_codes.specs.PackedCodes.{when, upCode, vpopCode, upTo, dForm, popSized, popCode, low, firstList, leave, secondList}
 use Rattle.packed.specs.declared.Packed.{Packed}
 use Rattle.packed_codes.specs.as_coded.Out.{putOf, puts, topOf}
 use Rattle.packed_codes.specs.declared.Out.{Out}
@@ -76,6 +77,20 @@ pub second-some :
     → secondList p ≡ when (not (EF p)) (upCode (amount p)) ++ vpopCode p ++ leave p (integers p (EF p))
 unfolding secondList
 second-some p h = rw (ne-eqb (p .ret) 3 h) refl
+
+-- the X of a list r4-rX, among the numbers from x up to another
+module _ (l x e : ℕ) where
+  pub top-here : x < e → l ≡ range 4 x → upTo (e - x) x l ≡ some x
+  unfolding upTo
+  top-here h k = let n : e - x ≡ suc (e - (x + 1)) = omega arith in rw (n, eq-eqb l (range 4 x) k) refl
+
+  pub top-later : x < e → (l ≡ range 4 x → ⊥) → upTo (e - x) x l ≡ upTo (e - (x + 1)) (x + 1) l
+  unfolding upTo
+  top-later h k = let n : e - x ≡ suc (e - (x + 1)) = omega arith in rw (n, ne-eqb l (range 4 x) k) refl
+
+  pub top-none : e ≤ x → upTo (e - x) x l ≡ none
+  unfolding upTo
+  top-none h = let n : e - x ≡ 0 = omega arith in rw n refl
 
 -- the D form by the X that was found
 pub d-register : (t : Option ℕ) (x f b : ℕ) (other : List ℕ) → topOf t ≡ Register x → dForm t f b other ≡ (f + x % 4 + 4 * b) ∷ []

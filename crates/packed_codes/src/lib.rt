@@ -14,7 +14,7 @@ use words::Verdict;
 ghost use mathlib.Core.Path.{_≡_};
 ghost use mathlib.Core.List.{_∷_, _++_, []};
 ghost use mathlib.Core.Bool.{true, false, _&&_, not};
-ghost use Prim.Native.Nat.{_+_, _<_, _-_, _*_, _/_, _%_};
+ghost use Prim.Native.Nat.{_+_, _≤_, _<_};
 ghost use lib.Dec.{eqb};
 ghost use Rattle.packed.specs.Packed.{Fit, fields as fieldsOf, amount as amountOf};
 ghost use Rattle.packed_codes.specs.PackedCodes.{when, upCode, vpopCode, upTo, popSized, popCode, low, firstList, leave as leaveOf, secondList, written, writeCodes, codesAnswer};
@@ -106,30 +106,17 @@ fn vpop(o: Out, p: Packed) -> Out
     put(o, (0xE0 + p.reg) as u8)
 }
 
-// The X of a list r4-rX for X = 4, 5, 6, 7.
-fn top_low(list: u32) -> Top
-    ensures { λ r. ⌜ r ≡ topOf (upTo 4 4 list) ⌝ }
+// The X of a list r4-rX, among the four numbers from `first` up.
+fn top_from(list: u32, first: u32) -> Top
+    requires { ⌜ (4 ≤ first) × (first ≤ 8) ⌝ }
+    ensures { λ r. ⌜ r ≡ topOf (upTo 4 first list) ⌝ }
 {
-    match list {
-        0x10 => Top::Register(4),
-        0x30 => Top::Register(5),
-        0x70 => Top::Register(6),
-        0xF0 => Top::Register(7),
-        _ => Top::Other,
+    for x in first..first + 4 {
+        if list == codes::from_r4(x) {
+            return Top::Register(x);
+        }
     }
-}
-
-// The X of a list r4-rX for X = 8, 9, 10, 11.
-fn top_high(list: u32) -> Top
-    ensures { λ r. ⌜ r ≡ topOf (upTo 4 8 list) ⌝ }
-{
-    match list {
-        0x1F0 => Top::Register(8),
-        0x3F0 => Top::Register(9),
-        0x7F0 => Top::Register(10),
-        0xFF0 => Top::Register(11),
-        _ => Top::Other,
-    }
+    Top::Other
 }
 
 // The code of a pop of 16 bits: D0-D7 for r4-rX, else EC-ED.
@@ -137,7 +124,7 @@ fn pop16(o: Out, list: u32, lr: u32) -> Out
     requires { ⌜ (list < 256) × (lr < 2) ⌝ }
     ensures { λ r. ⌜ r ≡ puts o (popSized true list lr) ⌝ }
 {
-    match top_low(list) {
+    match top_from(list, 4) {
         Top::Register(x) => put(o, (0xD0 + x % 4 + 4 * lr) as u8),
         Top::Other => put(put(o, (0xEC + lr) as u8), list as u8),
     }
@@ -148,7 +135,7 @@ fn pop32(o: Out, list: u32, lr: u32) -> Out
     requires { ⌜ (list < 8192) × (lr < 2) ⌝ }
     ensures { λ r. ⌜ r ≡ puts o (popSized false list lr) ⌝ }
 {
-    match top_high(list) {
+    match top_from(list, 8) {
         Top::Register(x) => put(o, (0xD8 + x % 4 + 4 * lr) as u8),
         Top::Other => put(
             put(o, (0x80 + list / 256 + 32 * lr) as u8),
@@ -183,16 +170,6 @@ fn first_list(o: Out, word: u32) -> Out
     put(put_if(o, p.h, 0x04), 0xFF)
 }
 
-// Whether a pop has 16 bits, which one of LR never has (RULES 4.12).
-fn narrow(list: u32, lr: u32) -> bool
-    ensures { λ r. ⌜ r ≡ (low list && eqb lr 0) ⌝ }
-{
-    if list < 256 {
-        return lr == 0;
-    }
-    false
-}
-
 // The pop, and the return by a load (RULES 4.8).
 fn leave_loading(o: Out, registers: u32) -> Out
     requires { ⌜ registers < 8192 ⌝ }
@@ -202,23 +179,13 @@ fn leave_loading(o: Out, registers: u32) -> Out
     put(put(put(o, 0xEF), 0x05), 0xFF)
 }
 
-// The pop, and the return by a branch (RULES 4.10).
+// The pop, which has 32 bits with LR in it (RULES 4.12), and the return by a branch (RULES 4.10).
 fn leave_jumping(o: Out, p: Packed, registers: u32) -> Out
     requires { ⌜ Fit p × (registers < 8192) ⌝ }
     ensures { λ r. ⌜ r ≡ puts o (popCode (low registers && eqb (p .l) 0) registers (p .l) ++ when (eqb (p .h) 1) (0x04 ∷ []) ++ ((0xFC + p .ret) ∷ [])) ⌝ }
 {
-    let o = pop(o, narrow(registers, p.l), registers, p.l);
+    let o = pop(o, registers < 256 && p.l == 0, registers, p.l);
     put(put_if(o, p.h, 0x04), (0xFC + p.ret) as u8)
-}
-
-// Whether an epilogue returns by a load (RULES 4.8).
-fn loads_lr(h: u32, l: u32) -> bool
-    ensures { λ r. ⌜ r ≡ (eqb h 1 && eqb l 1) ⌝ }
-{
-    if h == 1 {
-        return l == 1;
-    }
-    false
 }
 
 // The pop and the return at the end of an epilogue.
@@ -226,7 +193,7 @@ fn leave(o: Out, p: Packed, registers: u32) -> Out
     requires { ⌜ Fit p × (registers < 8192) ⌝ }
     ensures { λ r. ⌜ r ≡ puts o (leaveOf p registers) ⌝ }
 {
-    if loads_lr(p.h, p.l) {
+    if p.h == 1 && p.l == 1 {
         return leave_loading(o, registers);
     }
     if p.ret == 0 {
