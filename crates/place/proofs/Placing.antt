@@ -1,29 +1,29 @@
 -- The one pass over a record (specs/Look.antt) finds what `view` and `todo` say.
 -- Assumes nothing.
 use Prim.Native.Nat.{ℕ, _+_, _-_, _≤_, _<_}
-use mathlib.Core.Path.{_≡_, refl, sym, ap, ap₂, _∙_, subst}
+use mathlib.Core.Path.{_≡_, refl, sym, ap, _∙_, subst}
 use mathlib.Core.List.{List, [], _∷_, map}
 use mathlib.Core.Bool.{Bool, true, false, _&&_, _||_}
-use mathlib.Core.Option.{Option, none, some}
 use lib.Dec.{leb, ltb}
 use native.Mathlib.Omega.{arith}
-use borrow.Author.Tests.{ltb-true, ltb-false, leb-true, leb-false}
+use borrow.Author.Tests.{ltb-true, leb-true}
 use Rattle.words.proofs.Tests.{both}
 use Rattle.words.specs.Units.{codeBytes}
 use Rattle.words.specs.declared.CodeBytes.{CodeBytes}
 use Rattle.words.specs.declared.Place.{Place}
-use Rattle.words.specs.declared.Place.the-variants.{Leaf, Prologue, Body, Epilogue}
+use Rattle.words.specs.declared.Place.the-variants.{Prologue, Body, Epilogue}
 use Rattle.words.specs.declared.Refusal.{Refusal}
 use Rattle.words.specs.declared.Refusal.the-variants.{BadLayout, InsideInstruction, Conditional}
 use Rattle.words.specs.declared.Verdict.{Verdict}
 use Rattle.words.specs.declared.Verdict.the-variants.{Given, Refused}
 use Rattle.words.specs.Answer.{Res, ok, refuse, _>>=_, _>>_, need, either, maybe, orElse, verdict, if_then_else_}
-use Rattle.unwinding.specs.CodeList.{Codes, total, endOf}
+use Rattle.unwinding.specs.CodeList.{Codes, total}
 use Rattle.unwinding.specs.Shape.{Shape, startOf}
-use Rattle.unwinding.specs.View.{EpilogueOf, View, Stretch, stretch, fits, epilogues, view}
+use Rattle.unwinding.specs.View.{EpilogueOf, View, stretch, fits, epilogues, view}
 use Rattle.unwinding.specs.Todo.{Todo, left, inEpilogue, inEpilogues, todo}
 use Rattle.unwinding.specs.declared.Scope.{Scope}
-use Rattle.unwinding.proofs.Lined.{lined, next, reachOf, fits-lined}
+use Rattle.unwinding.specs.as_coded.Lined.{lined, next, reachOf}
+use Rattle.unwinding.proofs.Lined.{fits-lined}
 use Rattle.codes.specs.declared.Code.{Code}
 use Rattle.reader.specs.declared.Skipped.{Skipped}
 use Rattle.reader.specs.declared.Skipped.the-variants.{At, Nowhere}
@@ -31,7 +31,7 @@ use Rattle.codes.specs.Code.{size, scan, codesAt}
 use Rattle.codes.specs.Condition.{executing}
 use Rattle.reader.specs.as_coded.Skip.{skipAt}
 use Rattle.reader.proofs.SkipEnds.{codesBehind, skip-ends, skip-ending}
-use Rattle.place.specs.as_coded.Look.{epilogueSpan, inLine, hereOf, see, unseen, lookFrom, spot, noSpot, bySkip, skipped, ifAlways, inHere, inSeen, judged, prologueOf, spotOf}
+use Rattle.place.specs.as_coded.Look.{epilogueSpan, stretchOf, hereOf, see, unseen, lookFrom, noSpot, bySkip, skipped, ifAlways, inHere, inSeen, judged, prologueOf, spotOf}
 use Rattle.place.specs.declared.EpilogueSpan.{EpilogueSpan}
 use Rattle.place.specs.declared.Here.{Here}
 use Rattle.place.specs.declared.Here.the-variants.{Miss, In}
@@ -115,9 +115,6 @@ look-spans s span o seen (e ∷ es) = go (codesAt s (e .index)) (λ c. look-span
         rest (refuse r) = refl
         rest (ok ws) = refl
 
-abbrev stretchOf : EpilogueSpan → Stretch
-stretchOf w = record { from = w .start; to = w .start + w .size }
-
 and-assoc : (a b c : Bool) → ((a && b) && c) ≡ (a && (b && c))
 and-assoc true b c = refl
 and-assoc false b c = refl
@@ -134,7 +131,7 @@ seen-fits span o seen [] = go (seen .fits)
     go false = refl
 seen-fits span o seen (w ∷ ws) =
     seen-fits span o (see span o seen w) ws
-    ∙ and-assoc (seen .fits) (inLine span (seen .floor) (seen .reach) w)
+    ∙ and-assoc (seen .fits) (next span (seen .floor) (seen .reach) (stretchOf w))
     (lined span (w .start + 1) (reachOf (seen .reach) (stretchOf w)) (map stretchOf ws))
 
 same-stretches : (s : List ℕ) (ws : List EpilogueSpan) → map stretch (map (spanEpilogue s) ws) ≡ map stretchOf ws

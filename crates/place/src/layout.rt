@@ -17,10 +17,10 @@ ghost use mathlib.Core.Bool.{_&&_, _||_};
 ghost use Prim.Native.Nat.{ℕ, _+_, _-_, _^_, _≤_, _<_};
 ghost use mathlib.Core.List.{List};
 ghost use lib.ListN.{length};
-ghost use lib.Dec.{leb};
 ghost use Rattle.words.specs.Units.{codeBytes, halfwords, halfwordBytes};
 ghost use Rattle.words.specs.Answer.{verdict, if_then_else_};
 ghost use Rattle.unwinding.specs.View.{view};
+ghost use Rattle.unwinding.specs.as_coded.Lined.{next, reachOf};
 ghost use Rattle.unwinding.specs.Shape.{startOf};
 ghost use Rattle.codes.specs.Code.{size, codesAt, scan as scanOf};
 ghost use Rattle.reader.specs.as_coded.Reading.{scanned};
@@ -81,14 +81,14 @@ fn epilogue_span(e: Scope, found: Scanned, span: u64) -> EpilogueRead
 // Whether an epilogue from start up to end stands in line (RULES 5.5): not before floor, inside the function, and, unless it is empty,
 // not before reach.
 fn in_line(span: u64, floor: u64, reach: u64, start: u64, end: u64) -> bool
-    ensures { λ r. ⌜ r ≡ (leb floor start && leb end span && (leb end start || leb reach start)) ⌝ }
+    ensures { λ r. ⌜ r ≡ next span floor reach (record { from = start; to = end }) ⌝ }
 {
     floor <= start && end <= span && (end <= start || reach <= start)
 }
 
 // Where the last epilogue that is not empty ends.
 fn reach_of(reach: u64, start: u64, end: u64) -> u64
-    ensures { λ r. ⌜ r ≡ (if leb end start then reach else end) ⌝ }
+    ensures { λ r. ⌜ r ≡ reachOf reach (record { from = start; to = end }) ⌝ }
 {
     if end <= start { reach } else { end }
 }

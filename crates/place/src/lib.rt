@@ -22,6 +22,7 @@ ghost use Rattle.lent.specs.Lent.{lent};
 ghost use Rattle.words.specs.Answer.{verdict};
 ghost use Rattle.place.specs.Judged.{fullView, packedView, viewAt};
 ghost use Rattle.place.specs.as_coded.Placed.{refusedOf, inPlan, fullPlaced, packedPlaced};
+
 // An epilogue as its codes make it: it takes the bytes from start up to start + size.
 pub struct EpilogueSpan {
     pub start: u64,

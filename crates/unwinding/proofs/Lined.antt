@@ -1,5 +1,4 @@
--- Refusal 7 in one pass: stretches from the lowest start up, each not before `floor`, inside the function, and, unless it is empty, not
--- before `reach`, the end of the last one that was not empty. This is what comparing all pairs comes to.
+-- Refusal 7 in one pass (specs/as_coded/Lined.antt) is what comparing all pairs comes to.
 -- Assumes nothing.
 use Prim.Native.Nat.{ℕ, _+_, _≤_, _<_, min, max}
 use mathlib.Core.Path.{_≡_, refl, sym, ap, subst}
@@ -10,21 +9,8 @@ use native.Mathlib.Omega.{arith}
 use borrow.Author.Tests.{leb-true, leb-false}
 use Rattle.words.specs.Answer.{if_then_else_}
 use Rattle.words.proofs.Tests.{T-both as both, T-and as and, T-same as same}
+use Rattle.unwinding.specs.as_coded.Lined.{empty, reachOf, next, lined}
 use Rattle.unwinding.specs.View.{EpilogueOf, Stretch, stretch, shared, inside, apart, allApart, ascending, fits}
-
-abbrev empty : Stretch → Bool
-empty a = leb (a .to) (a .from)
-
--- the end of the last stretch that is not empty
-abbrev pub reachOf : (reach : ℕ) → Stretch → ℕ
-reachOf r a = if empty a then r else a .to
-
-abbrev pub next : (span floor reach : ℕ) → Stretch → Bool
-next span f r a = leb f (a .from) && leb (a .to) span && (empty a || leb r (a .from))
-
-abbrev pub lined : (span floor reach : ℕ) → List Stretch → Bool
-lined span f r [] = true
-lined span f r (a ∷ rest) = next span f r a && lined span (a .from + 1) (reachOf r a) rest
 
 -- ---- what each part says of a stretch and those after it
 -- no start is below f, and they ascend

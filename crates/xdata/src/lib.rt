@@ -9,12 +9,10 @@ use words::bit;
 use words::bits;
 ghost use mathlib.Core.Path.{_≡_};
 ghost use Prim.Native.Nat.{_+_, _*_, _<_};
-ghost use Rattle.words.specs.Bits.{bits as bitsOf};
 ghost use Rattle.lent.specs.Lent.{lent};
 ghost use Rattle.lent.specs.Little.{word32};
-ghost use Rattle.words.specs.Units.{halfwords, halfwordBytes};
 ghost use Rattle.words.specs.Answer.{ok, refuse};
-ghost use Rattle.xdata.specs.Xdata.{fitXdata, X, E, F, scopeCount, codesOffset, handlerOffset, recordBytes, shortHead, headAt, xdataSize, sizeAnswer, handlerAt};
+ghost use Rattle.xdata.specs.Xdata.{fitXdata, X, E, F, scopeCount, codesOffset, handlerOffset, recordBytes, shortHead, headAt, xdataSize, sizeAnswer, spanOf, handlerAt};
 ghost use Rattle.xdata.specs.as_coded.Heads.{headRead, wholeRecord, longRecord};
 ghost use Rattle.xdata.specs.Scopes.{scopeOf};
 ghost use Rattle.xdata.specs.as_coded.Scopes.{resZero};
@@ -219,7 +217,7 @@ pub fn xdata_size(rva: u32, xdata: &[u8], at: u32) -> SizeOf
 
 // The function's length in bytes.
 pub fn span_of(word: u32) -> u32
-    ensures { λ r. ⌜ r ≡ halfwordBytes (halfwords (bitsOf 0 18 word)) ⌝ }
+    ensures { λ r. ⌜ r ≡ spanOf word ⌝ }
 {
     words::halfword_bytes(Halfwords(bits(word, 0, 18))) as u32
 }

@@ -3,7 +3,7 @@
 -- `todo` say is a law (proofs/Placing.antt).
 use Prim.Native.Nat.{ℕ, _+_, _-_}
 use mathlib.Core.List.{List, [], _∷_}
-use mathlib.Core.Bool.{Bool, true, false, _&&_, _||_, not}
+use mathlib.Core.Bool.{Bool, true, false, _&&_, _||_}
 use lib.Dec.{leb, ltb}
 use Rattle.words.specs.declared.CodeBytes.{CodeBytes}
 use Rattle.words.specs.declared.Place.{Place}
@@ -16,6 +16,8 @@ use Rattle.words.specs.Units.{codeBytes}
 use Rattle.words.specs.Answer.{Res, either, if_then_else_}
 use Rattle.unwinding.specs.CodeList.{Codes, total}
 use Rattle.unwinding.specs.Shape.{startOf}
+use Rattle.unwinding.specs.View.{Stretch}
+use Rattle.unwinding.specs.as_coded.Lined.{reachOf, next}
 use Rattle.unwinding.specs.declared.Scope.{Scope}
 use Rattle.codes.specs.declared.Code.{Code}
 use Rattle.reader.specs.declared.Skipped.{Skipped}
@@ -47,9 +49,9 @@ abbrev pub epilogueEnd : EpilogueRead → ℕ
 epilogueEnd (Made w) = w .start + w .size
 epilogueEnd (Unread r) = 0
 
--- it stands in line (RULES 5.5): not before `floor`, inside the function, and, unless it is empty, not before `reach`
-abbrev pub inLine : (span floor reach : ℕ) → EpilogueSpan → Bool
-inLine span f r w = leb f (w .start) && leb (w .start + w .size) span && (leb (w .start + w .size) (w .start) || leb r (w .start))
+-- the bytes that it takes
+abbrev pub stretchOf : EpilogueSpan → Stretch
+stretchOf w = record { from = w .start; to = w .start + w .size }
 
 -- the first epilogue that the offset falls into
 abbrev pub hereOf : (offset : ℕ) → Here → EpilogueSpan → Here
@@ -59,7 +61,7 @@ hereOf o Miss w = if leb (w .start) o && ltb o (w .start + w .size) then In w el
 -- what has been seen with one epilogue more
 abbrev pub see : (span offset : ℕ) → Seen → EpilogueSpan → Seen
 see span o s w =
-    record { floor = w .start + 1; reach = if leb (w .start + w .size) (w .start) then s .reach else w .start + w .size; fits = s .fits && inLine span (s .floor) (s .reach) w; here = hereOf o (s .here) w }
+    record { floor = w .start + 1; reach = reachOf (s .reach) (stretchOf w); fits = s .fits && next span (s .floor) (s .reach) (stretchOf w); here = hereOf o (s .here) w }
 
 -- before any epilogue: the prologue is what must not be shared
 abbrev pub unseen : (span prologue : ℕ) → Seen
