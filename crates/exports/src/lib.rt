@@ -6,7 +6,6 @@ use words::Halfwords;
 ghost use mathlib.Core.Path.{_≡_};
 ghost use lib.ListN.{length};
 ghost use Rattle.lent.specs.Lent.{lent};
-ghost use Rattle.words.specs.Refusals.{verdictNumber};
 ghost use Rattle.pdata.specs.Pdata.{find, found};
 ghost use Rattle.xdata.specs.Xdata.{xdataSize, sizeAnswer};
 ghost use Rattle.packed.specs.Packed.{writeWord, wordAnswer};
@@ -14,7 +13,7 @@ ghost use Rattle.packed_codes.specs.PackedCodes.{writeCodes, codesAnswer};
 ghost use Rattle.text.specs.Overlay.{overlay};
 ghost use Rattle.listing.specs.Listing.{listing};
 ghost use Rattle.caller_text.specs.CallerText.{callerText};
-ghost use Rattle.exports.specs.Numbers.{foundNumbers, foundRefusal, fieldsIn, lengths};
+ghost use Rattle.exports.specs.Numbers.{foundNumbers, foundRefusal, fieldsIn, FoundTold, SizeTold, WordTold, CodesTold};
 
 // A report's bytes in, the text that `walk` or `caller` prints into a lent buffer. The result is the text's length; what does not fit the
 // buffer is left out (RULES 8.7).
@@ -66,7 +65,7 @@ fn tell(f: Found) -> Told
 // The record of a pc: 1, its number, its start and its word; 0 four times if there is none.
 #[no_mangle]
 pub extern "C" fn leafbobbin_find(image: u32, pdata: &[u8], pc: u32, out: &mut [u64; 4]) -> u32
-    ensures { λ r. ⌜ (r ≡ foundRefusal (found (find image (now (pdata .entry)) pc))) × (now (out .exit) ≡ foundNumbers (found (find image (now (pdata .entry)) pc))) ⌝ }
+    ensures { λ r. ⌜ FoundTold (found (find image (now (pdata .entry)) pc)) r (now (out .exit)) ⌝ }
 {
     let t = tell(pdata::find(image, pdata, pc));
     let record = t.record;
@@ -77,7 +76,7 @@ pub extern "C" fn leafbobbin_find(image: u32, pdata: &[u8], pc: u32, out: &mut [
 // The bytes of the .xdata record at an RVA (RULES 2.13).
 #[no_mangle]
 pub extern "C" fn leafbobbin_size(rva: u32, xdata: &[u8], at: u32, bytes: &mut u32) -> u32
-    ensures { λ r. ⌜ (r ≡ verdictNumber (sizeAnswer (xdataSize (lent rva (now (xdata .entry))) at) .verdict)) × (now (bytes .exit) ≡ sizeAnswer (xdataSize (lent rva (now (xdata .entry))) at) .bytes) ⌝ }
+    ensures { λ r. ⌜ SizeTold (sizeAnswer (xdataSize (lent rva (now (xdata .entry))) at)) r (now (bytes .exit)) ⌝ }
 {
     let size = xdata::xdata_size(rva, xdata, at);
     *bytes = size.bytes;
@@ -105,7 +104,7 @@ fn fields_in(fields: &[u32; 9]) -> Packed
 // The packed word of nine fields (RULES 4.18).
 #[no_mangle]
 pub extern "C" fn leafbobbin_word(fields: &[u32; 9], word: &mut u32) -> u32
-    ensures { λ r. ⌜ (r ≡ verdictNumber (wordAnswer (writeWord (fieldsIn (now (fields .entry)))) .verdict)) × (now (word .exit) ≡ wordAnswer (writeWord (fieldsIn (now (fields .entry)))) .word) ⌝ }
+    ensures { λ r. ⌜ WordTold (wordAnswer (writeWord (fieldsIn (now (fields .entry))))) r (now (word .exit)) ⌝ }
 {
     let written = packed::write_word(fields_in(fields));
     *word = written.word;
@@ -116,7 +115,7 @@ pub extern "C" fn leafbobbin_word(fields: &[u32; 9], word: &mut u32) -> u32
 // The 16 code bytes of a packed word, and how many of them each of its lists has (RULES 4.19).
 #[no_mangle]
 pub extern "C" fn leafbobbin_codes(word: u32, bytes: &mut [u8; 16], lens: &mut [usize; 2]) -> u32
-    ensures { λ r. ⌜ (r ≡ verdictNumber (codesAnswer (writeCodes word) .verdict)) × (now (bytes .exit) ≡ codesAnswer (writeCodes word) .bytes) × (now (lens .exit) ≡ lengths (codesAnswer (writeCodes word))) ⌝ }
+    ensures { λ r. ⌜ CodesTold (codesAnswer (writeCodes word)) r (now (bytes .exit)) (now (lens .exit)) ⌝ }
 {
     let codes = packed_codes::write_codes(word);
     let list = codes.bytes;

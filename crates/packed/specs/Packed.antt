@@ -10,7 +10,7 @@ use lib.Dec.{leb, ltb, eqb}
 use Rattle.words.specs.declared.StackWords.{StackWords}
 use Rattle.words.specs.declared.Refusal.the-variants.{Reserved}
 use Rattle.words.specs.Bits.{bits, bit}
-use Rattle.words.specs.Units.{halfwords, stackWords}
+use Rattle.words.specs.Units.{halfwords, halfwordBytes, stackWords}
 use Rattle.words.specs.Answer.{Res, ok, need, if_then_else_, verdict, orElse, _>>=_, _>>_}
 use Rattle.codes.specs.Table.{range}
 use Rattle.packed.specs.declared.Packed.{Packed}
@@ -65,6 +65,13 @@ EF p = folded p && bit 3 (p .adjust)
 abbrev pub integers : Packed → (fold : Bool) → ℕ
 integers p fold =
     (if eqb (p .r) 0 then range 4 (4 + p .reg) else 0) + (if fold then range (3 - p .adjust % 4) 3 else 0) + p .c * 2 ^ 11
+
+-- the function's length in bytes, and whether it has no prologue (RULES 4.17)
+abbrev pub packedSpan : Packed → ℕ
+packedSpan p = halfwordBytes (p .length)
+
+abbrev pub packedFragment : Packed → Bool
+packedFragment p = eqb (p .flag) 2
 
 -- each field below what its bits hold
 pub record Fit (p : Packed) : Type 0 where

@@ -5,14 +5,14 @@ use lib.ListN.{take, drop}
 use lib.Dec.{eqb}
 use Rattle.words.specs.Bits.{bits}
 use Rattle.lent.specs.Lent.{Lent}
-use Rattle.words.specs.Units.{halfwordBytes, codeBytes, codeWordBytes}
+use Rattle.words.specs.Units.{codeBytes, codeWordBytes}
 use Rattle.words.specs.declared.CodeBytes.{CodeBytes}
 use Rattle.words.specs.Answer.{Res, ok, if_then_else_, _>>=_, _>>_}
 use Rattle.unwinding.specs.Shape.{Shape}
 use Rattle.unwinding.specs.declared.Scope.{Scope}
 use Rattle.codes.specs.Condition.{always}
 use Rattle.unwinding.specs.declared.Start.the-variants.{Ending}
-use Rattle.packed.specs.Packed.{fields}
+use Rattle.packed.specs.Packed.{fields, packedSpan, packedFragment}
 use Rattle.packed_codes.specs.PackedCodes.{writeCodes}
 use Rattle.xdata.specs.Xdata.{E, F, scopeCount, codesOffset, spanOf, handlerAt, headAt}
 use Rattle.xdata.specs.Scopes.{scopesAt}
@@ -39,7 +39,7 @@ unfoldable pub packedShape : ℕ → Res Shape
 packedShape w = do
   c ← writeCodes w
   let p = fields w
-  ok (record { span = halfwordBytes (p .length); codes = c .bytes; fragment = eqb (p .flag) 2; scopes = if eqb (p .ret) 3 then [] else lastScope (c .first) ∷ []; handler = 0 })
+  ok (record { span = packedSpan p; codes = c .bytes; fragment = packedFragment p; scopes = if eqb (p .ret) 3 then [] else lastScope (c .first) ∷ []; handler = 0 })
 
 -- by Flag: with 0 the word leads to a full record, else it is packed (RULES 2.2)
 abbrev pub shapeAt : Lent → (word : ℕ) → Res Shape

@@ -7,7 +7,7 @@ use lib.ListN.{take, drop, replicate}
 use lib.Dec.{eqb}
 use Rattle.lent.specs.Lent.{Lent}
 use Rattle.lent.specs.Little.{word32}
-use Rattle.words.specs.Units.{halfwordBytes, codeBytes, codeWordBytes}
+use Rattle.words.specs.Units.{codeBytes, codeWordBytes}
 use Rattle.words.specs.declared.CodeBytes.{CodeBytes}
 use Rattle.words.specs.declared.Verdict.{Verdict}
 use Rattle.words.specs.declared.Verdict.the-variants.{Given, Refused}
@@ -15,7 +15,7 @@ use Rattle.words.specs.Answer.{Res, ok, refuse, if_then_else_, _>>=_, _>>_}
 use Rattle.unwinding.specs.Shape.{Shape}
 use Rattle.unwinding.specs.declared.Scope.{Scope}
 use Rattle.xdata.specs.Xdata.{E, F, scopeCount, codesOffset, spanOf, handlerAt, headAt}
-use Rattle.packed.specs.Packed.{fields}
+use Rattle.packed.specs.Packed.{fields, packedSpan, packedFragment}
 use Rattle.packed_codes.specs.PackedCodes.{writeCodes}
 use Rattle.record.specs.Record.{lastScope}
 use Rattle.xdata.specs.Scopes.{scopeOf, scopesAt}
@@ -77,7 +77,7 @@ fullAnswer (refuse r) = record { verdict = Refused r; plan = noPlan; codes = rec
 -- a packed record: one epilogue, which ends with the function, unless Ret=3 (RULES 4.17)
 abbrev pub packedPlanBy : Packed → (first : CodeBytes) → Plan
 packedPlanBy p i =
-    record { span = halfwordBytes (p .length); fragment = eqb (p .flag) 2; count = if eqb (p .ret) 3 then 0 else 1; scopes = Ending i; handler = 0 }
+    record { span = packedSpan p; fragment = packedFragment p; count = if eqb (p .ret) 3 then 0 else 1; scopes = Ending i; handler = 0 }
 
 abbrev pub packedBy : ℕ → CodesOf → PackedOf
 packedBy w c = record { verdict = Given; plan = packedPlanBy (fields w) (c .first); bytes = c .bytes }
