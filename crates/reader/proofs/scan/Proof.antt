@@ -169,8 +169,8 @@ module _ {M : Type 1} (𝓤 : URA M) (H : Heap 𝓤) (A : Atoms 𝓤) (W : Given
   abbrev Loop : Type 0
   Loop = Here (sr .now) i
 
-  epilogues : (x : Scanned) → Is Z.the-row i (zv i ∷ []) → Is X.the-row x (xv x ∷ []) → x ≡ scanned (scan (sr .now) i) → ent 𝓤 (⋆ 𝓤 H A (‵ codesOwn ∷ ‵ (flft κ q) ∷ [])) (Post (xv x))
-  epilogues x g₀ g e =
+  exits : (x : Scanned) → Is Z.the-row i (zv i ∷ []) → Is X.the-row x (xv x ∷ []) → x ≡ scanned (scan (sr .now) i) → ent 𝓤 (⋆ 𝓤 H A (‵ codesOwn ∷ ‵ (flft κ q) ∷ [])) (Post (xv x))
+  exits x g₀ g e =
       qed W (‵ codesOwn ∷ ‵ (flft κ q) ∷ []) ∵
       suffices ! _ (ends-at 𝓤 H A scan′.ended stayed (scan′.clauses 𝓤 H A mem run) W (((κ, tt), (q, tt), tt, a, mach), tt) (xv x) x (tt, (tt, tt)) (tt, (tt, tt))) $ says ! e $
       nothing ! $ move ! (2 ∷ 0 ∷ []) $ join ! $ frame ! $ nothing ! $ owned ! Z.the-row (Is Z.the-row) (LL.makes Z.the-type Z′.the-plain 𝓤 H A) i _ g₀ $ fjoin ! $ move ! (1 ∷ 0 ∷ []) $ fjoin ! $ frame ! $
@@ -279,7 +279,7 @@ module _ {M : Type 1} (𝓤 : URA M) (H : Heap 𝓤) (A : Atoms 𝓤) (W : Given
           assigns ! (of-opd ! (load ! (from ! (stop !)) (look ! 13 refl))) (from ! (stop !)) (init ! 21 refl (EL.lawful X.the-type X′.the-laws 𝓤 H A W tt .typed (u .found) _ (qq .1 .0) .0)) $
           returns ! (look ! 21 refl) $ forget ! 3 refl $ forget ! 5 refl $ forget ! 7 refl $ forget ! 9 refl $ forget ! 11 refl $ forget ! 13 refl $ forget ! 15 refl $ forget ! 17 refl $ forget ! 19 refl $ forget ! 21 refl $
           move ! (21 ∷ 22 ∷ []) $ free1 ! $ move ! (19 ∷ 20 ∷ []) $ free1 ! $ move ! (17 ∷ 18 ∷ []) $ free1 ! $ move ! (15 ∷ 16 ∷ []) $ free1 ! $ move ! (13 ∷ 14 ∷ []) $ free1 ! $ move ! (11 ∷ 12 ∷ []) $ free1 ! $ move ! (9 ∷ 10 ∷ []) $ free1 ! $
-          move ! (7 ∷ 8 ∷ []) $ free1 ! $ move ! (5 ∷ 6 ∷ []) $ free1 ! $ move ! (3 ∷ 4 ∷ []) $ free1 ! $ free0 ! $ drop ! $ by ! (epilogues (u .found) g₀ (qq .1 .0)
+          move ! (7 ∷ 8 ∷ []) $ free1 ! $ move ! (5 ∷ 6 ∷ []) $ free1 ! $ move ! (3 ∷ 4 ∷ []) $ free1 ! $ free0 ! $ drop ! $ by ! (exits (u .found) g₀ (qq .1 .0)
           (ap (λ (y : Turn). y .found) e₃ ∙ ended h (ap (λ (y : Turn). y .on) (sym e₃) ∙ is-false (u .on) off))))
           (λ on. let go = ap (λ (y : Turn). y .on) (sym e₃) ∙ is-true (u .on) on in
           skips ! $ exec ! (𝓣 .C) (𝓣 .Λ) E (rest (rest (rest (rest (rest (rest (rest mir.turn-1))))))) (Turned h) $

@@ -144,8 +144,8 @@ module _ {M : Type 1} (𝓤 : URA M) (H : Heap 𝓤) (A : Atoms 𝓤) (W : Given
   again : (n : CodeBytes) → Is Z.the-row n (zv n ∷ []) → ent 𝓤 (sem 𝓤 H A Own) (sem 𝓤 H A (B (κ, tt) .own (h′ n) (T′.lowered (h′ n) ∷ [])))
   again n ok = qed W (‵ Own ∷ []) ∵ owned ! Z.the-row (Is Z.the-row) (LL.makes Z.the-type Z′.the-plain 𝓤 H A) n _ ok $ move ! (1 ∷ 0 ∷ []) $ by ! (own-put 𝓤 H A W D L 1 vd n mach)
 
-  epilogues : (r : Moved) → Is C.the-row (r .taken) (EL.vals C.the-type C′.the-laws (r .taken)) → Is Z.the-row (r .at) (zv (r .at) ∷ []) → r ≡ found → ent 𝓤 (⋆ 𝓤 H A ((‵ (flft κ q) ⊛ ‵ ftrue) ∷ ‵ Own ∷ [])) (Post (LL.val PD PL (st r)))
-  epilogues r is ok e =
+  exits : (r : Moved) → Is C.the-row (r .taken) (EL.vals C.the-type C′.the-laws (r .taken)) → Is Z.the-row (r .at) (zv (r .at) ∷ []) → r ≡ found → ent 𝓤 (⋆ 𝓤 H A ((‵ (flft κ q) ⊛ ‵ ftrue) ∷ ‵ Own ∷ [])) (Post (LL.val PD PL (st r)))
+  exits r is ok e =
       qed W ((‵ (flft κ q) ⊛ ‵ ftrue) ∷ ‵ Own ∷ []) ∵
       suffices ! _ (ends-at 𝓤 H A take.ended stayed (take.clauses 𝓤 H A at-mem run) W (((κ, tt), (q, tt), tt, (h, tt), (mach ∷ [], tt)), tt) (LL.val PD PL (st r)) (st r) (tt, tt) (tt, tt)) $
       says ! (ap (λ (t : Moved). t .taken) e, ap (λ (t : Moved). h′ (t .at)) e) $ frame ! $
@@ -174,7 +174,7 @@ module _ {M : Type 1} (𝓤 : URA M) (H : Heap 𝓤) (A : Atoms 𝓤) (W : Given
         (init ! 15 refl (LL.lawful PD PL 𝓤 H A W .typed (st r) _ (LL.owes PD PL (st r) (parts .0, (LL.owes D L (h′ (r .at)) (LL.owed D L h _ was .0, (parts .1 .0, tt)), tt))) .0)) $
         returns ! (look ! 15 refl) $ forget ! 3 refl $ forget ! 5 refl $ forget ! 7 refl $ forget ! 9 refl $ forget ! 11 refl $ forget ! 13 refl $ forget ! 15 refl $
         move ! (15 ∷ 16 ∷ []) $ free1 ! $ move ! (13 ∷ 14 ∷ []) $ free1 ! $ move ! (11 ∷ 12 ∷ []) $ free1 ! $ move ! (9 ∷ 10 ∷ []) $ free1 ! $ move ! (7 ∷ 8 ∷ []) $ free1 ! $ move ! (5 ∷ 6 ∷ []) $ free1 ! $ move ! (3 ∷ 4 ∷ []) $ free1 ! $ free0 ! $
-        drop ! $ by ! (epilogues r (parts .0) (parts .1 .0) e))))))))))))
+        drop ! $ by ! (exits r (parts .0) (parts .1 .0) e))))))))))))
 
 module _ {M : Type 1} (𝓤 : URA M) (H : Heap 𝓤) (A : Atoms 𝓤) (W : Given 𝓤 H A) (mem : Memory → SProp 𝓤) (run : Routine → Fun 𝓤) where
   take-walks : (C₀ : Calls 𝓤 H) (Λ : Loops 𝓤 H) → FmC 𝓤 H (W .laws) C₀ → Triple 𝓤 (C₀ #reader·move-at) (MoveC 𝓤 H A mem run) → Walks 𝓤 H A take.ended stayed (WpFn 𝓤 H C₀ Λ code.function) (take.clauses 𝓤 H A mem run)
