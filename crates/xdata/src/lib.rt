@@ -1,4 +1,4 @@
-// .xdata records: the head, the size, the scopes, and the shape as plain values. It knows neither registers nor the stack.
+// .xdata records: the head, the size, the scope words, the handler. It knows neither registers nor the stack.
 use unwinding::Scope;
 use unwinding::Start;
 use words::CodeBytes;

@@ -1,5 +1,5 @@
 -- Running the code list that code bytes hold from an index on as it is read, with the number of codes run. That it is `run` of the codes
--- that `codesAt` reads is a law (`todo-ran` of frame/proofs/Within.antt).
+-- that `codesAt` reads is a law (`run-codes` of proofs/Running.antt).
 use Prim.Native.Nat.{ℕ}
 use mathlib.Core.List.{List}
 use lib.ListN.{length}
