@@ -101,8 +101,8 @@ fn put_given(out: &mut [u8], place: Place, handler: u32, codes: usize) -> usize
     ensures { λ r. ⌜ Laid (now (out .entry)) 0 (givenText place handler codes) r (now (out .exit)) ⌝ }
 {
     let next = put_text(out, 0, b"caller place ");
-    let next = put_place(out, next, place);
-    let next = put_text(out, next, b" handler ");
+    let next = put_place(out, next, place, b' ');
+    let next = put_text(out, next, b"handler ");
     let next = put_hex8(out, next, handler);
     put_count(out, next, b" codes ", codes as u64)
 }

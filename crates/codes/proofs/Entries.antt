@@ -8,13 +8,9 @@ use Prim.Native.Nat.{ℕ, zero, suc, _+_, _-_, _≤_, _<_}
 use native.Mathlib.Nat.{add-zero, zero-add, add-suc, suc-add, le-of-suc-le-suc, not-suc-le-zero}
 use native.Mathlib.Omega.{arith}
 use lib.ListN.{getD}
+pub use Rattle.codes.specs.as_coded.Rows.{tab}
 
 module _ {A : Type 0} where
-  -- g at i and the n - 1 numbers after it
-  abbrev pub tab : (ℕ → A) → ℕ → ℕ → List A
-  tab g i zero = []
-  tab g i (suc n) = g i ∷ tab g (suc i) n
-
   -- n times x
   abbrev pub all : A → ℕ → List A
   all x zero = []

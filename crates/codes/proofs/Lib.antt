@@ -1,8 +1,10 @@
 pub mod Opened
 pub mod Entries
 pub mod Rows
+pub mod Sorts
 pub mod Registers
 pub mod Meanings
 pub mod Values
 pub mod Taking
+pub mod Sizing
 pub mod Scanning

@@ -1,13 +1,11 @@
--- Bytes as one number, later bytes lower: one byte more, and how far the number can reach.
+-- Bytes of a list as one number, later bytes lower: the first byte, and one byte more.
 -- Assumes nothing.
-use Prim.Native.Nat.{ℕ, _+_, _*_, _≤_, _<_, _^_}
-use mathlib.Core.Path.{_≡_, refl, ap, _∙_}
+use Prim.Native.Nat.{ℕ, _+_, _*_, _<_}
+use mathlib.Core.Path.{_≡_, refl, sym, ap, ap₂, _∙_}
 use mathlib.Core.List.{List, [], _∷_, _++_}
-use lib.ListN.{length, take, getD}
-use lib.Dec.{lit<}
-use lib.Seq.{take-suc}
+use lib.ListN.{length, take, drop, getD, length-drop}
+use lib.Seq.{take-suc, getD-drop}
 use native.Mathlib.Omega.{arith}
-use native.Mathlib.Nat.{pow-succ', pow-le-pow-right}
 use native.Mathlib.Numerals.{add-one}
 use Rattle.codes.specs.Code.{value}
 
@@ -16,12 +14,20 @@ unfolding value
 value-last [] x v = refl
 value-last (b ∷ s) x v = value-last s x (256 * v + b)
 
-pub value-more : (s : List ℕ) (k : ℕ) → k < length s → value (take (k + 1) s) 0 ≡ 256 * value (take k s) 0 + getD s k 0
-value-more s k h = ap (λ l. value l 0) (ap (λ n. take n s) (add-one k) ∙ take-suc s k 0 h) ∙ value-last (take k s) (getD s k 0) 0
+-- the n bytes from i on
+module _ (s : List ℕ) (i : ℕ) where
+  abbrev pub bytes : (n : ℕ) → ℕ
+  bytes n = value (take n (drop i s)) 0
 
--- a byte more multiplies the reach by 256, and four bytes fit 32 bits
-pub reach-more : (v b k : ℕ) → v < 256 ^ k → b < 256 → 256 * v + b < 256 ^ (k + 1)
-reach-more v b k h l = rw (add-one k, pow-succ' 256 k) (omega arith)
+  pub bytes-more : (k v x : ℕ) → i + k < length s → v ≡ bytes k → x ≡ getD s (i + k) 0 → 256 * v + x ≡ bytes (k + 1)
+  bytes-more k v x h p q =
+      let l : k < length (drop i s) = rw (length-drop) (omega arith) in
+      ap₂ (λ v x. 256 * v + x) p (q ∙ sym (getD-drop i s k 0))
+      ∙ sym (ap (λ x. value x 0) (ap (λ n. take n (drop i s)) (add-one k) ∙ take-suc (drop i s) k 0 l) ∙ value-last (take k (drop i s)) (getD (drop i s) k 0) 0)
 
-pub reach-four : (n k : ℕ) → n < 256 ^ k → k ≤ 4 → n < 2 ^ 32
-reach-four n k h l = let m : 256 ^ k ≤ 256 ^ 4 = pow-le-pow-right (lit< tt) l in omega arith
+  pub bytes-one : (x : ℕ) → i < length s → x ≡ getD s i 0 → x ≡ bytes 1
+  unfolding value
+  bytes-one x h q =
+      let f : i ≡ i + 0 = omega arith in
+      let e : x ≡ 256 * 0 + x = omega arith in
+      e ∙ bytes-more 0 0 x (omega arith) refl (q ∙ ap (λ k. getD s k 0) f)

@@ -20,7 +20,6 @@ use Rattle.xdata.specs.Xdata.{sizeAnswer}
 use Rattle.frame.specs.Frame.{Inputs, Caller, frame, unwound}
 use Rattle.walking.specs.Walk.{arm, frames, Trail, walk, walkedAll}
 use Rattle.walking.specs.declared.Stop.the-variants as Stop
-use Rattle.walking.proofs.Next.{refused-is}
 use Rattle.listing.proofs.Sizes.{listing-fits}
 use Rattle.caller_text.proofs.Sizes.{caller-fits}
 use Rattle.forward.specs.Demand.{Demand3}
@@ -41,6 +40,10 @@ answer-stays : (g : Regs) (x y : Res Caller) → Stays x y → ofExtent (verdict
 answer-stays g (ok c) y h e = ap (unwound g) (h e)
 answer-stays g (refuse q) y h e = ap (unwound g) (h e)
 
+answer-refused : (g : Regs) (x : Res Caller) (r : Refusal) → unwound g x .verdict ≡ Verdict.Refused r → x ≡ refuse r
+answer-refused g (ok c) r v = absurd (let z : _≡_ {A = ℕ} 0 1 = cc in omega arith)
+answer-refused g (refuse q) r v = cc
+
 -- ---- the walk
 walk-number : (t : Inputs) {n : ℕ} {first : Bool} {g : Regs} {w : Trail} (r : Refusal) (pc : ℕ) → Walks arm (frames t) n first g w → w .stop ≡ Stop.Refused r pc → number r ≤ 13
 walk-number t r pc no-room e = absurd (let z : _≡_ {A = ℕ} 0 1 = cc in omega arith)
@@ -51,13 +54,13 @@ walk-number t r pc (more c q z below) e = walk-number t r pc below e
 -- ---- the demands
 pub demand1 : Demand1 ours
 demand1 = record {
-  frame-number = λ t g r e. (numbered r, up-first t g r (refused-is g (frame t g) _ r refl e));
+  frame-number = λ t g r e. (numbered r, up-first t g r (answer-refused g (frame t g) r e));
   walk-number = λ t g l r pc e. (numbered r, walk-number t r pc (walks arm (frames t) (length l) true g) e);
   find-number = found-number;
   size-number = size-number;
   word-number = word-number;
   codes-number = codes-number;
-  given-back = λ t g r e. ap (unwound g) (refused-is g (frame t g) _ r refl e);
+  given-back = λ t g r e. ap (unwound g) (answer-refused g (frame t g) r e);
   untouched = λ t g l. untouched arm l (walk t (length l) g) (walk-room arm (frames t) (length l) true g);
   frame-stays = λ t t′ g w e. answer-stays g (frame t g) (frame t′ g) (stays-frame t t′ w true g) e;
   walk-stays = λ t t′ g l w h. ap (walkedAll l) (walk-wider arm (frames t) (frames t′) (stays-frame t t′ w) (length l) true g (λ s r z. h r (even (s .pc)) z));

@@ -1,13 +1,13 @@
 -- One frame by what was found: its refusal, 8 for SP as given, no record, or the record.
 -- Assumes nothing.
-use Prim.Native.Nat.{ℕ, _%_}
-use mathlib.Core.Path.{_≡_, refl, sym, ap, _∙_}
-use mathlib.Core.List.{List, map}
+use Prim.Native.Nat.{ℕ, _-_, _%_}
+use mathlib.Core.Path.{_≡_, refl, ap}
 use mathlib.Core.Bool.{Bool, true, false, _&&_}
 use mathlib.Core.Option.{Option, none, some}
 use lib.ListN.{length}
 use lib.Dec.{eqb}
 use native.Mathlib.Omega.{arith}
+use Rattle.words.specs.Bits.{even}
 use Rattle.words.specs.declared.Refusal.{Refusal}
 use Rattle.words.specs.declared.Refusal.the-variants.{UnfitInput, BadStack}
 use Rattle.words.specs.Answer.{Res, ok, refuse}
@@ -19,6 +19,7 @@ use Rattle.pdata.specs.Pdata.{find, found}
 use Rattle.xdata.specs.Xdata.{fitXdata}
 use Rattle.pdata.proofs.Finding.{find-unfit}
 use Rattle.frame.specs.Frame.{Inputs, fitStack, uncovered, byRecord, afterFind, frameOf, checked}
+use Rattle.frame.specs.as_coded.FromPlace.{byWord}
 
 pub found-refused : (x : Res (Option Entry)) (r : Refusal) → found x ≡ Refused r → x ≡ refuse r
 found-refused (ok none) r q = absurd (let z : _≡_ {A = ℕ} 0 1 = cc in omega arith)
@@ -45,8 +46,11 @@ module _ (first : Bool) (t : Inputs) (g : Regs) (x : Res (Option Entry)) where
   pub after-none : x ≡ ok none → stands (t .stack) (g .sp) ≡ true → afterFind first t g x ≡ uncovered first g
   after-none q s = rw (q, s) refl
 
-  pub after-record : (e : Entry) → x ≡ ok (some e) → stands (t .stack) (g .sp) ≡ true → afterFind first t g x ≡ byRecord first t e g
-  after-record e q s = rw (q, s) refl
+  pub after-record :
+      (e : Entry) (o : ℕ) → x ≡ ok (some e) → stands (t .stack) (g .sp) ≡ true → o ≡ even (g .pc) - t .image - e .start
+      → afterFind first t g x ≡ byWord first (t .xdata) (e .word) (t .stack) o g
+  unfolding byRecord
+  after-record e o q s at = rw (q, s, at) refl
 
 -- by the checks that a walk makes once
 module _ (first : Bool) (t : Inputs) (g : Regs) where

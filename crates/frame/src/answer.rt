@@ -1,83 +1,82 @@
-// The caller of a frame: by no covering record, or by the record found.
-use super::Unwound;
-use machine::Regs;
-use pdata::Entry;
+// The caller of a frame, in place: by no covering record, or by the record found.
+use super::Came;
 use place::Placed;
 use words::CodeBytes;
 use words::Place;
 use words::Refusal;
 use words::Verdict;
 ghost use mathlib.Core.Path.{_≡_};
-ghost use Prim.Native.Nat.{ℕ, _-_, _≤_};
+ghost use Prim.Native.Nat.{ℕ, _-_};
 ghost use mathlib.Core.List.{List};
 ghost use Rattle.words.specs.Bits.{even};
 ghost use Rattle.lent.specs.Lent.{lent};
 ghost use Rattle.words.specs.Answer.{refuse};
-ghost use Rattle.frame.specs.Frame.{returned as returnedOf, uncovered as uncoveredOf, byRecord, inputs, unwound};
-ghost use Rattle.frame.specs.as_coded.FromPlace.{ranFrom, fromPlaced, byFull, byPacked};
+ghost use Rattle.codes.specs.as_coded.Rows.{rowNumbers};
+ghost use Rattle.machine.specs.as_coded.Answers.{regs};
+ghost use Rattle.frame.specs.Frame.{uncovered as uncoveredOf};
+ghost use Rattle.frame.specs.as_coded.FromPlace.{ranFrom, fromPlaced, byWord};
+ghost use Rattle.frame.specs.as_coded.InPlace.{cameTo};
 
-// A refusal has the registers as they came (RULES 6.7).
-pub fn refused(g: Regs, why: Refusal) -> Unwound
-    ensures { λ r. ⌜ r ≡ unwound g (refuse why) ⌝ }
+// A refusal, whatever stands in the lists.
+pub fn refused(why: Refusal) -> Came
+    ensures { λ u. ⌜ ((r d : List ℕ) → cameTo u r d ≡ refuse why) ⌝ }
 {
-    Unwound {
+    Came {
         verdict: Verdict::Refused(why),
-        regs: g,
+        sp: 0,
+        lr: 0,
         place: Place::Leaf,
         handler: 0,
         codes: 0,
     }
 }
 
-// Back in the caller: its pc is in LR, which stays as it is (RULES 6.3).
-fn returned(g: Regs) -> Regs
-    ensures { λ r. ⌜ r ≡ returnedOf g ⌝ }
-{
-    let mut h = g;
-    h.pc = words::even(g.lr);
-    h
-}
-
-// Nothing covers the pc: a leaf in the first frame, 12 in a later one (RULES 6.2).
-pub fn uncovered(first: bool, g: Regs) -> Unwound
-    ensures { λ r. ⌜ r ≡ unwound g (uncoveredOf first g) ⌝ }
+// Nothing covers the pc: a leaf in the first frame, 12 in a later one (RULES 6.2). The lists stay as they are.
+pub fn uncovered(first: bool, sp: u32, lr: u32) -> Came
+    ensures { λ u. ⌜ ((r d : List ℕ) (pc : ℕ) → cameTo u r d ≡ uncoveredOf first (regs r sp lr pc d)) ⌝ }
 {
     if first {
-        return Unwound {
+        return Came {
             verdict: Verdict::Given,
-            regs: returned(g),
+            sp,
+            lr,
             place: Place::Leaf,
             handler: 0,
             codes: 0,
         };
     }
-    refused(g, Refusal::NoRecord)
+    refused(Refusal::NoRecord)
 }
 
 // The codes from an index run, and 11.
 fn ran_from(
+    t: &[u8; 256],
     codes: &[u8],
     index: CodeBytes,
     place: Place,
     handler: u32,
-    g: Regs,
+    r: &mut [u32; 13],
+    d: &mut [u64; 32],
+    sp: u32,
+    lr: u32,
     base: u32,
     stack: &[u8],
-) -> Unwound
-    ensures { λ r. ⌜ r ≡ unwound g (ranFrom (lent base (now (stack .entry))) (now (codes .entry)) handler g place index) ⌝ }
+) -> Came
+    requires { ⌜ now t ≡ rowNumbers ⌝ }
+    ensures { λ u. ⌜ ((pc : ℕ) → cameTo u (now (r .exit)) (now (d .exit)) ≡ ranFrom (lent base (now (stack .entry))) (now (codes .entry)) handler (regs (now (r .entry)) sp lr pc (now (d .entry))) place index) ⌝ }
 {
-    let ran = machine::run(codes, index, g, base, stack);
+    let ran = machine::run_in(t, codes, index, r, d, sp, lr, base, stack);
     let verdict = ran.verdict;
     match verdict {
-        Verdict::Refused(why) => refused(g, why),
+        Verdict::Refused(why) => refused(why),
         Verdict::Given => {
-            let h = ran.regs;
-            if h.sp < g.sp {
-                return refused(g, Refusal::SpFell);
+            if ran.sp < sp {
+                return refused(Refusal::SpFell);
             }
-            Unwound {
+            Came {
                 verdict: Verdict::Given,
-                regs: returned(h),
+                sp: ran.sp,
+                lr: ran.lr,
                 place: place,
                 handler: handler,
                 codes: ran.codes,
@@ -87,53 +86,48 @@ fn ran_from(
 }
 
 // By where the pc stands in the record found.
-fn from_placed(first: bool, codes: &[u8], p: Placed, g: Regs, base: u32, stack: &[u8]) -> Unwound
-    ensures { λ r. ⌜ r ≡ unwound g (fromPlaced first (lent base (now (stack .entry))) (now (codes .entry)) g p) ⌝ }
+fn from_placed(
+    t: &[u8; 256],
+    first: bool,
+    codes: &[u8],
+    p: Placed,
+    r: &mut [u32; 13],
+    d: &mut [u64; 32],
+    sp: u32,
+    lr: u32,
+    base: u32,
+    stack: &[u8],
+) -> Came
+    requires { ⌜ now t ≡ rowNumbers ⌝ }
+    ensures { λ u. ⌜ ((pc : ℕ) → cameTo u (now (r .exit)) (now (d .exit)) ≡ fromPlaced first (lent base (now (stack .entry))) (now (codes .entry)) (regs (now (r .entry)) sp lr pc (now (d .entry))) p) ⌝ }
 {
     let verdict = p.verdict;
     let place = p.place;
     match verdict {
-        Verdict::Refused(why) => refused(g, why),
+        Verdict::Refused(why) => refused(why),
         Verdict::Given => {
             if p.covers {
-                return ran_from(codes, p.index, place, p.handler, g, base, stack);
+                return ran_from(
+                    t,
+                    codes,
+                    p.index,
+                    place,
+                    p.handler,
+                    r,
+                    d,
+                    sp,
+                    lr,
+                    base,
+                    stack,
+                );
             }
-            uncovered(first, g)
+            uncovered(first, sp, lr)
         }
     }
 }
 
-// By the full record at an RVA.
-fn by_full(
-    first: bool,
-    rva: u32,
-    xdata: &[u8],
-    at: u32,
-    o: u64,
-    g: Regs,
-    base: u32,
-    stack: &[u8],
-) -> Unwound
-    ensures { λ r. ⌜ r ≡ unwound g (byFull first (lent rva (now (xdata .entry))) at (lent base (now (stack .entry))) o g) ⌝ }
-{
-    let p = place::full(rva, xdata, at, o);
-    let part = p.codes;
-    let start = part.start;
-    let end = start + part.len;
-    from_placed(first, &xdata[start..end], p.at, g, base, stack)
-}
-
-// By a packed word.
-fn by_packed(first: bool, word: u32, o: u64, g: Regs, base: u32, stack: &[u8]) -> Unwound
-    ensures { λ r. ⌜ r ≡ unwound g (byPacked first word (lent base (now (stack .entry))) o g) ⌝ }
-{
-    let p = place::packed(word, o);
-    let bytes = p.bytes;
-    from_placed(first, &bytes, p.at, g, base, stack)
-}
-
 // How far the pc is into a function (RULES 5.1).
-fn offset_of(image: u32, start: u32, pc: u32) -> u64
+pub fn offset_of(image: u32, start: u32, pc: u32) -> u64
     ensures { λ r. ⌜ r ≡ even pc - image - start ⌝ }
 {
     let at = words::even(pc);
@@ -146,23 +140,29 @@ fn offset_of(image: u32, start: u32, pc: u32) -> u64
     (at - image - start) as u64
 }
 
-// By the record found.
-pub fn by_record(
+// By word 1 of the record found, at an offset.
+pub fn by_word(
+    t: &[u8; 256],
     first: bool,
-    image: u32,
     rva: u32,
     xdata: &[u8],
     base: u32,
     stack: &[u8],
-    e: Entry,
-    g: Regs,
-) -> Unwound
-    ensures { λ r. ⌜ ((p : List ℕ) → r ≡ unwound g (byRecord first (inputs image p rva (now (xdata .entry)) base (now (stack .entry))) e g)) ⌝ }
+    word: u32,
+    o: u64,
+    r: &mut [u32; 13],
+    d: &mut [u64; 32],
+    sp: u32,
+    lr: u32,
+) -> Came
+    requires { ⌜ now t ≡ rowNumbers ⌝ }
+    ensures { λ u. ⌜ ((pc : ℕ) → cameTo u (now (r .exit)) (now (d .exit)) ≡ byWord first (lent rva (now (xdata .entry))) word (lent base (now (stack .entry))) o (regs (now (r .entry)) sp lr pc (now (d .entry)))) ⌝ }
 {
-    let o = offset_of(image, e.start, g.pc);
-    let word = e.word;
-    if words::bits(word, 0, 2) == 0 {
-        return by_full(first, rva, xdata, word, o, g, base, stack);
-    }
-    by_packed(first, word, o, g, base, stack)
+    let p = place::at(t, rva, xdata, word, o);
+    let part = p.codes;
+    let bytes = p.bytes;
+    let start = part.start;
+    let end = start + part.len;
+    let codes = record::pick(p.written, &bytes, xdata, start, end);
+    from_placed(t, first, codes, p.at, r, d, sp, lr, base, stack)
 }

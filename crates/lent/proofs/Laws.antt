@@ -1,14 +1,12 @@
--- Laws of lent bytes and of their words.
+-- Laws of lent bytes.
 -- Assumes nothing.
 use Prim.Native.Nat.{ℕ, _+_, _≤_, _<_}
-use mathlib.Core.Path.{_≡_, refl, ap, _∙_}
+use mathlib.Core.Path.{_≡_, refl, ap}
 use mathlib.Core.Bool.{false}
 use mathlib.Core.List.{List}
 use lib.Dec.{leb}
-use lib.ListN.{length, getD, List·getD-eq-default}
-use native.Mathlib.Omega.{arith}
+use lib.ListN.{length, getD}
 use borrow.Author.Tests.{le-leb, lt-leb}
-use Rattle.lent.specs.Little.{word32}
 use Rattle.lent.specs.Lent.{lent, holds}
 
 -- no byte below the base is lent
@@ -22,12 +20,3 @@ holds-above b s a n h = rw (le-leb b a h) refl
 -- the byte at an equal place
 pub byte-same : (s : List ℕ) {i j : ℕ} → i ≡ j → getD s i 0 ≡ getD s j 0
 byte-same s h = ap (λ k. getD s k 0) h
-
--- no word stands past the end of the bytes
-pub word-past : (s : List ℕ) (i : ℕ) → length s ≤ i → 0 ≡ word32 s i
-word-past s i h =
-    let b0 = List·getD-eq-default s 0 {n = i} h in
-    let b1 = List·getD-eq-default s 0 {n = i + 1} (omega arith) in
-    let b2 = List·getD-eq-default s 0 {n = i + 2} (omega arith) in
-    let b3 = List·getD-eq-default s 0 {n = i + 2 + 1} (omega arith) in
-    omega (arith, b0, b1, b2, b3)

@@ -1,5 +1,5 @@
-// Little-endian words of lent bytes (RULES 1.3, 1.7): a part of the .pdata, of the .xdata, of the stack, of a file. No function asks
-// anything of its caller.
+// Little-endian words of lent bytes (RULES 1.3, 1.7): a part of the .pdata, of the .xdata, of the stack, of a file. Two functions alone ask
+// of their caller that the bytes are there, `word32_in` and `word64_in`, for a caller that has tested them once for many words.
 ghost use mathlib.Core.Path.{_≡_};
 ghost use Prim.Native.Nat.{_+_, _<_, _≤_};
 ghost use lib.ListN.{length, getD};
@@ -34,8 +34,8 @@ fn byte_after(s: &[u8], at: usize, k: usize) -> u32
     byte_in(s, at + k)
 }
 
-// The word at a place whose four bytes are in the slice.
-fn word32_in(s: &[u8], i: usize) -> u32
+// The words at a place whose bytes are in the slice: the caller has tested that, once for many words.
+pub fn word32_in(s: &[u8], i: usize) -> u32
     requires { ⌜ i + 4 ≤ length (now s) ⌝ }
     ensures { λ r. ⌜ r ≡ word32Of (now (s .entry)) i ⌝ }
 {
@@ -45,41 +45,33 @@ fn word32_in(s: &[u8], i: usize) -> u32
         + 16777216 * byte_in(s, i + 3)
 }
 
-// The word k places, a few, after a place of the slice, its bytes one by one: those past the end are 0.
-fn word32_bytewise(s: &[u8], at: usize, k: usize) -> u32
-    requires { ⌜ k < 8 ⌝ }
-    ensures { λ r. ⌜ r ≡ word32Of (now (s .entry)) (at + k) ⌝ }
+pub fn word64_in(s: &[u8], i: usize) -> u64
+    requires { ⌜ i + 8 ≤ length (now s) ⌝ }
+    ensures { λ r. ⌜ r ≡ word64Of (now (s .entry)) i ⌝ }
 {
-    byte_after(s, at, k)
-        + 256 * byte_after(s, at, k + 1)
-        + 65536 * byte_after(s, at, k + 2)
-        + 16777216 * byte_after(s, at, k + 3)
+    (word32_in(s, i) as u64) + 4294967296 * (word32_in(s, i + 4) as u64)
 }
 
-// The same, by one test where the four bytes are there.
-fn word32_after(s: &[u8], at: usize, k: usize) -> u32
-    requires { ⌜ k < 8 ⌝ }
-    ensures { λ r. ⌜ r ≡ word32Of (now (s .entry)) (at + k) ⌝ }
+// The word at a place of the slice, its bytes one by one: those past the end are 0.
+fn word32_bytewise(s: &[u8], at: usize) -> u32
+    ensures { λ r. ⌜ r ≡ word32Of (now (s .entry)) at ⌝ }
 {
-    if at < s.len() {
-        if k + 4 <= s.len() - at {
-            return word32_in(s, at + k);
-        }
-    }
-    word32_bytewise(s, at, k)
+    byte_after(s, at, 0)
+        + 256 * byte_after(s, at, 1)
+        + 65536 * byte_after(s, at, 2)
+        + 16777216 * byte_after(s, at, 3)
 }
 
-// The little-endian words at an offset. Whoever takes one for a word of the input has tested that its bytes are there.
+// The same, by one test where the four bytes are there. Whoever takes it for a word of the input has tested that they are.
 pub fn word32(s: &[u8], at: usize) -> u32
     ensures { λ r. ⌜ r ≡ word32Of (now (s .entry)) at ⌝ }
 {
-    word32_after(s, at, 0)
-}
-
-pub fn word64(s: &[u8], at: usize) -> u64
-    ensures { λ r. ⌜ r ≡ word64Of (now (s .entry)) at ⌝ }
-{
-    (word32_after(s, at, 0) as u64) + 4294967296 * (word32_after(s, at, 4) as u64)
+    if at < s.len() {
+        if 4 <= s.len() - at {
+            return word32_in(s, at);
+        }
+    }
+    word32_bytewise(s, at)
 }
 
 // Whether n bytes from an address are lent, of `len` bytes from `base` up.

@@ -9,7 +9,7 @@
 use Prim.Native.Nat.{ℕ, _+_}
 use Prim.Native.String.{String}
 use mathlib.Core.List.{List, [], _∷_, _++_}
-use lib.ListN.{length, take}
+use lib.ListN.{length}
 use Rattle.words.specs.Refusals.{number}
 use Rattle.words.specs.declared.Refusal.{Refusal}
 use Rattle.words.specs.declared.Place.{Place}
@@ -19,7 +19,6 @@ use Rattle.walking.specs.Walk.{Trail, walk}
 use Rattle.walking.specs.declared.Frame.{Frame}
 use Rattle.walking.specs.declared.Stop.{Stop}
 use Rattle.walking.specs.declared.Stop.the-variants.{End, Full, Refused}
-use Rattle.walking.specs.declared.WalkedAll.{WalkedAll}
 use Rattle.report.specs.Report.{report}
 use Rattle.text.specs.Text.{text, decimal, hex8}
 
@@ -52,10 +51,6 @@ lastOf s n k = stopText s ++ text " frames " ++ decimal n ++ text " codes " ++ d
 
 abbrev pub lastLine : Trail → List ℕ
 lastLine w = lastOf (w .stop) (length (w .frames)) (w .codes)
-
--- the walk that an answer with its list is of
-abbrev pub trailOf : WalkedAll → Trail
-trailOf a = record { frames = take (a .walked .frames) (a .list); stop = a .walked .stop; codes = a .walked .codes }
 
 unfoldable pub printed : Trail → List ℕ
 printed w = text "frame pc sp place\n" ++ frameLines 0 (w .frames) ++ lastLine w

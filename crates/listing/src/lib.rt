@@ -1,24 +1,30 @@
 // The listing of a report, as bytes (RULES 8.3): a heading, a line for each frame, and why the walk stopped. It neither reads nor
 // writes.
-ghost use mathlib.Core.List.{_++_};
+ghost use mathlib.Core.List.{[], _∷_, _++_};
 ghost use mathlib.Core.Path.{_≡_};
 ghost use Prim.Native.Nat.{_≤_};
-ghost use lib.ListN.{length, take};
+ghost use lib.ListN.{length};
+ghost use Rattle.frame.specs.Frame.{inputs};
 ghost use Rattle.walking.specs.Walk.{walk};
 ghost use Rattle.text.specs.Text.{text};
 ghost use Rattle.text.specs.Overlay.{overlay, Laid};
 ghost use Rattle.report.specs.as_coded.Parts.{inputsIn, Lie};
-ghost use Rattle.listing.specs.Listing.{placeName, refusedText, stopText, frameLine, frameLines, lastOf, trailOf, printed, listing};
+ghost use Rattle.listing.specs.Listing.{placeName, refusedText, stopText, frameLine, lastOf, printed, listing};
+ghost use Rattle.listing.specs.as_coded.Turns.{turnText};
+use machine::Regs;
 use report::Parts;
 use report::read_report;
+use text::put_addresses;
 use text::put_byte;
 use text::put_count;
 use text::put_decimal;
 use text::put_hex8;
 use text::put_text;
+use text::put_word;
 use walking::Frame;
+use walking::Going;
+use walking::Standing;
 use walking::Stop;
-use walking::WalkedAll;
 use words::Place;
 use words::Refusal;
 use words::Verdict;
@@ -26,15 +32,15 @@ use words::Verdict;
 // The largest listing (RULES 8.7).
 pub const LISTING_BYTES: usize = 8192;
 
-// The name of a place.
-pub fn put_place(out: &mut [u8], at: usize, place: Place) -> usize
-    ensures { λ r. ⌜ Laid (now (out .entry)) at (text (placeName place)) r (now (out .exit)) ⌝ }
+// The name of a place, and a byte after it.
+pub fn put_place(out: &mut [u8], at: usize, place: Place, after: u8) -> usize
+    ensures { λ r. ⌜ Laid (now (out .entry)) at (text (placeName place) ++ (after ∷ [])) r (now (out .exit)) ⌝ }
 {
     match place {
-        Place::Leaf => put_text(out, at, b"leaf"),
-        Place::Prologue => put_text(out, at, b"prologue"),
-        Place::Body => put_text(out, at, b"body"),
-        Place::Epilogue => put_text(out, at, b"epilogue"),
+        Place::Leaf => put_word(out, at, b"leaf", after),
+        Place::Prologue => put_word(out, at, b"prologue", after),
+        Place::Body => put_word(out, at, b"body", after),
+        Place::Epilogue => put_word(out, at, b"epilogue", after),
     }
 }
 
@@ -72,28 +78,8 @@ fn put_frame(out: &mut [u8], at: usize, number: usize, frame: Frame) -> usize
 {
     let place = frame.place;
     let next = put_decimal(out, at, number as u64);
-    let next = put_byte(out, next, b' ');
-    let next = put_hex8(out, next, frame.pc);
-    let next = put_byte(out, next, b' ');
-    let next = put_hex8(out, next, frame.sp);
-    let next = put_byte(out, next, b' ');
-    let next = put_place(out, next, place);
-    put_byte(out, next, b'\n')
-}
-
-// The lines of the first frames of the list.
-fn put_frames(out: &mut [u8], at: usize, list: [Frame; 256], frames: usize) -> usize
-    requires { ⌜ frames ≤ 256 ⌝ }
-    ensures { λ r. ⌜ Laid (now (out .entry)) at (frameLines 0 (take frames list)) r (now (out .exit)) ⌝ }
-{
-    let mut next = at;
-    let mut i = 0;
-    while i < frames {
-        let frame = list[i];
-        next = put_frame(out, next, i, frame);
-        i += 1;
-    }
-    next
+    let next = put_addresses(out, next, frame.pc, frame.sp);
+    put_place(out, next, place, b'\n')
 }
 
 // The last line.
@@ -106,19 +92,58 @@ fn put_last(out: &mut [u8], at: usize, stop: Stop, frames: usize, codes: usize) 
     put_byte(out, next, b'\n')
 }
 
-// What a walk comes to.
-fn put_walk(out: &mut [u8], answer: WalkedAll) -> usize
-    requires { ⌜ answer .walked .frames ≤ 256 ⌝ }
-    requires { ⌜ answer .walked .frames ≤ length (answer .list) ⌝ }
-    ensures { λ r. ⌜ Laid (now (out .entry)) 0 (printed (trailOf answer)) r (now (out .exit)) ⌝ }
+// What a turn of the walk prints: the frame's line, or the last one.
+fn put_turn(out: &mut [u8], at: usize, s: Standing, x: Going) -> usize
+    ensures { λ r. ⌜ Laid (now (out .entry)) at (turnText s x) r (now (out .exit)) ⌝ }
 {
-    let list = answer.list;
-    let walked = answer.walked;
-    let stop = walked.stop;
-    let frames = walked.frames;
-    let next = put_text(out, 0, b"frame pc sp place\n");
-    let next = put_frames(out, next, list, frames);
-    put_last(out, next, stop, frames, walked.codes)
+    let stop = x.stop;
+    let frame = x.frame;
+    if x.on {
+        return put_frame(out, at, s.frames, frame);
+    }
+    put_last(out, at, stop, s.frames, s.codes)
+}
+
+// The walk, each frame's line as it is found: no list of frames is needed.
+fn put_walk(
+    out: &mut [u8],
+    image: u32,
+    pdata: &[u8],
+    rva: u32,
+    xdata: &[u8],
+    base: u32,
+    stack: &[u8],
+    g: Regs,
+) -> usize
+    ensures { λ n. ⌜ Laid (now (out .entry)) 0 (printed (walk (inputs image (now (pdata .entry)) rva (now (xdata .entry)) base (now (stack .entry))) 256 g)) n (now (out .exit)) ⌝ }
+{
+    let rows = codes::row_table();
+    let c = frame::check(pdata, rva, xdata, base, stack);
+    let mut r = g.r;
+    let mut d = g.d;
+    let mut s = walking::stand(g, false, 0, 0);
+    let mut next = put_text(out, 0, b"frame pc sp place\n");
+    let mut on = true;
+    while on {
+        let x = walking::turn_in(
+            &rows,
+            c,
+            image,
+            pdata,
+            rva,
+            xdata,
+            base,
+            stack,
+            &mut r,
+            &mut d,
+            s,
+            256,
+        );
+        next = put_turn(out, next, s, x);
+        on = x.on;
+        s = x.next;
+    }
+    next
 }
 
 // The walk over a report's parts.
@@ -131,13 +156,8 @@ fn list_parts(file: &[u8], p: Parts, out: &mut [u8]) -> usize
     let stack = p.stack;
     let end = p.end;
     let regs = p.regs;
-    let blank = Frame {
-        pc: 0,
-        sp: 0,
-        place: Place::Leaf,
-    };
-    let list = [blank; 256];
-    let answer = walking::walk_all(
+    put_walk(
+        out,
         p.image,
         &file[pdata..xdata],
         p.rva,
@@ -145,9 +165,7 @@ fn list_parts(file: &[u8], p: Parts, out: &mut [u8]) -> usize
         p.base,
         &file[stack..end],
         regs,
-        list,
-    );
-    put_walk(out, answer)
+    )
 }
 
 // `refused R` alone on its line.

@@ -7,12 +7,10 @@ use Rattle.words.specs.declared.Refusal.{Refusal}
 use Rattle.words.specs.declared.Verdict.{Verdict}
 use Rattle.words.specs.declared.Verdict.the-variants.{Given, Refused}
 use Rattle.words.specs.Answer.{Res, ok, refuse, _>>=_}
-use Rattle.machine.specs.as_coded.Run.{ran}
-use Rattle.machine.specs.as_coded.Answers.{loaded, loadedTwo, came, Counted}
+use Rattle.machine.specs.as_coded.Answers.{loaded, loadedTwo, came}
 use Rattle.machine.specs.declared.Loaded.the-variants as Loads
 use Rattle.machine.specs.declared.LoadedTwo.the-variants as Two
 use Rattle.machine.specs.declared.Regs.{Regs}
-use Rattle.machine.specs.declared.Ran.{Ran}
 
 -- a word was loaded, or was not
 pub loaded-word : (x : Res ℕ) (w : ℕ) → loaded x ≡ Loads.Word w → x ≡ ok w
@@ -44,21 +42,3 @@ came-given v h x e g = sym e ∙ ap (λ w. came w h) g
 
 pub came-refused : (v : Verdict) (h : Regs) (x : Res Regs) (r : Refusal) → came v h ≡ x → v ≡ Refused r → x ≡ refuse r
 came-refused v h x r e g = sym e ∙ ap (λ w. came w h) g
-
--- what came of it in place, given back
-pub came-ran :
-    (g h : Regs) (v : Verdict) (m n : ℕ) (x : Res Regs) → came v h ≡ x → Counted v m n → v ≡ Given
-    → record { verdict = Given; regs = h; codes = m } ≡ ran g n x
-came-ran g h v m n x e few given =
-    ap (λ c. record { verdict = Given; regs = h; codes = c }) (few .all given) ∙ sym (ap (ran g n) (came-given v h x e given))
-
--- a code list was run, or was not
-pub ran-given :
-    (g : Regs) (n : ℕ) (x : Res Regs) (u : Ran) → u ≡ ran g n x → u .verdict ≡ Given → (x ≡ ok (u .regs)) × (u .codes ≡ n)
-ran-given g n (ok h) u e v = (rw e refl, rw e refl)
-ran-given g n (refuse r) u e v = clash (rw e at v)
-
-pub ran-refused :
-    (g : Regs) (n : ℕ) (x : Res Regs) (u : Ran) (r : Refusal) → u ≡ ran g n x → u .verdict ≡ Refused r → x ≡ refuse r
-ran-refused g n (ok h) u r e v = clash (sym (rw e at v))
-ran-refused g n (refuse q) u r e v = let w : ran g n (refuse q) .verdict ≡ Refused r = rw e at v in cc

@@ -1,7 +1,7 @@
 -- Running the codes from an index on: by the code that stands there, and where the code list is known.
 -- Assumes nothing.
 use Prim.Native.Nat.{ℕ, _+_}
-use mathlib.Core.Path.{_≡_, refl, sym, ap, ap₂, _∙_}
+use mathlib.Core.Path.{_≡_, refl, sym, ap, _∙_}
 use mathlib.Core.List.{List}
 use lib.ListN.{length}
 use native.Mathlib.Numerals.{add-one}
@@ -21,7 +21,7 @@ use Rattle.codes.specs.declared.Code.{Code}
 use Rattle.codes.specs.declared.Taken.the-variants.{One, Last, Bad}
 use Rattle.codes.proofs.Scanning.{scan-by}
 use Rattle.machine.specs.Step.{step}
-use Rattle.machine.specs.as_coded.Run.{runAt, ran}
+use Rattle.machine.specs.as_coded.Run.{runAt}
 use Rattle.machine.specs.declared.Regs.{Regs}
 
 -- the codes of a scan, and then its end
@@ -72,7 +72,7 @@ whole l (ok n) c e = let same : record { list = l; endSize = n } ≡ c = cc in (
 whole l (refuse r) c e = absurd (let z : _≡_ {A = ℕ} 0 1 = cc in omega arith)
 
 module _ (s : List ℕ) (i : CodeBytes) (c : Codes Code) (e : codesAt s i ≡ ok c) where
-  pub codes-list : scan s i .list ≡ c .list
+  codes-list : scan s i .list ≡ c .list
   codes-list = whole (scan s i .list) (scan s i .ending) c e .0
 
   pub run-codes : (k : Lent) (g : Regs) → runAt k s i g ≡ run (step k) (c .list) g
@@ -82,7 +82,3 @@ module _ (s : List ℕ) (i : CodeBytes) (c : Codes Code) (e : codesAt s i ≡ ok
       bind-same x (λ h. scan s i .ending >> ok h) (λ h. ok h) (whole (scan s i .list) (scan s i .ending) c e .1)
       ∙ bind-ok x
       ∙ ap (λ l. run (step k) l g) codes-list
-
-  -- what is given back is what the list gives, and its length
-  pub ran-codes : (k : Lent) (g : Regs) → ran g (length (scan s i .list)) (runAt k s i g) ≡ ran g (length (c .list)) (run (step k) (c .list) g)
-  ran-codes k g = ap₂ (ran g) (ap length codes-list) (run-codes k g)

@@ -1,4 +1,5 @@
-// The machine that codes act on: registers and the lent stack. It knows no tables. No public function asks anything of its caller.
+// The machine that codes act on: registers and the lent stack. It knows no tables. No public function asks anything of its caller, but
+// `run_in` that the table lent to it is that of `codes::row_table`.
 use codes::Code;
 use codes::Taken;
 use codes::Undo;
@@ -8,16 +9,19 @@ use words::StackWords;
 use words::Verdict;
 ghost use mathlib.Core.Path.{_≡_};
 ghost use mathlib.Core.List.{List};
-ghost use Prim.Native.Nat.{ℕ, _+_, _-_, _*_, _<_, _^_};
+ghost use mathlib.Core.Bool.{true};
+ghost use Prim.Native.Nat.{ℕ, _+_, _-_, _*_, _<_, _≤_, _^_};
 ghost use lib.Dec.{eqb};
 ghost use lib.ListN.{length, getD, set};
 ghost use Rattle.words.specs.Bits.{bit};
-ghost use Rattle.lent.specs.Lent.{lent};
-ghost use Rattle.words.specs.Answer.{refuse, if_then_else_};
+ghost use Rattle.lent.specs.Lent.{lent, holds as holdsOf};
+ghost use Rattle.words.specs.Answer.{if_then_else_};
 ghost use Rattle.codes.specs.Code.{scan};
+ghost use Rattle.codes.specs.as_coded.Rows.{rowNumbers};
 ghost use Rattle.machine.specs.Step.{stands as standsOf, load as loadOf, pop as popOf, vpop as vpopOf, effect as effectOf, step as stepOf};
-ghost use Rattle.machine.specs.as_coded.Answers.{loaded, loadedTwo, regs, came, Counted};
-ghost use Rattle.machine.specs.as_coded.Run.{runAt, ran};
+ghost use Rattle.machine.specs.as_coded.Answers.{loaded, loadedTwo, regs, came, outcome, Counted};
+ghost use Rattle.machine.specs.as_coded.Listed.{wordsListed};
+ghost use Rattle.machine.specs.as_coded.Run.{runAt};
 
 // The registers of RULES 1.1.
 pub struct Regs {
@@ -58,17 +62,10 @@ struct Stood {
 }
 
 // What the codes from an index on came to, and how many were run.
-struct Ended {
-    verdict: Verdict,
-    sp: u32,
-    lr: u32,
-    codes: usize,
-}
-
-// What a code list came to. A refusal has the registers as they came, and no code counts.
-pub struct Ran {
+pub struct Ended {
     pub verdict: Verdict,
-    pub regs: Regs,
+    pub sp: u32,
+    pub lr: u32,
     pub codes: usize,
 }
 
@@ -130,7 +127,7 @@ pub fn load(base: u32, stack: &[u8], at: u64) -> Loaded
     ensures { λ r. ⌜ r ≡ loaded (loadOf (lent base (now (stack .entry))) at) ⌝ }
 {
     if lent::holds(base, stack, at, 4) {
-        return Loaded::Word(lent::word_at(base, stack, at));
+        return Loaded::Word(lent::word32_in(stack, (at - base as u64) as usize));
     }
     Loaded::Refused(Refusal::BadStack)
 }
@@ -148,46 +145,81 @@ fn load_two(base: u32, stack: &[u8], at: u64) -> LoadedTwo
     }
 }
 
+// SP moves, and nothing else.
+fn moved(sp: u64, lr: u32) -> Undone
+    ensures { λ u. ⌜ u ≡ record { verdict = Verdict.Given; sp = sp; lr = lr } ⌝ }
+{
+    Undone {
+        verdict: Verdict::Given,
+        sp,
+        lr,
+    }
+}
+
 // Whether a list has the register of a number.
-fn has(list: u16, x: usize) -> bool
+fn has(list: u32, x: usize) -> bool
     requires { ⌜ x < 16 ⌝ }
     ensures { λ r. ⌜ r ≡ bit x list ⌝ }
 {
     (list >> x) % 2 == 1
 }
 
-// Pops a list by rising number, LR as 14 at last (RULES 3.11).
-fn pop(list: u16, r: &mut [u32; 13], sp: u32, lr: u32, base: u32, stack: &[u8]) -> Undone
+// How many words a pop of a list takes.
+fn words_listed(list: u32) -> u64
+    ensures { λ r. ⌜ r ≡ wordsListed list 15 ⌝ }
+{
+    let mut n = 0;
+    for x in 0..15 {
+        if has(list, x) {
+            n = n + 1;
+        }
+    }
+    n
+}
+
+// Whether a list's words are lent from SP on. The registers are counted only near the end of the stack.
+fn room(list: u32, sp: u32, base: u32, stack: &[u8]) -> bool
+    ensures { λ r. ⌜ r ≡ holdsOf (lent base (now (stack .entry))) sp (4 * wordsListed list 15) ⌝ }
+{
+    let at = sp as u64;
+    lent::holds(base, stack, at, 60) || lent::holds(base, stack, at, 4 * words_listed(list))
+}
+
+// Pops a list whose words are lent, with no test for each: its caller has asked `room`.
+fn pop_in(list: u32, r: &mut [u32; 13], sp: u32, lr: u32, base: u32, stack: &[u8]) -> Undone
+    requires { ⌜ holdsOf (lent base (now stack)) sp (4 * wordsListed list 15) ≡ true ⌝ }
     ensures { λ u. ⌜ ((pc : ℕ) (d : List ℕ) → came (u .verdict) (regs (now (r .exit)) (u .sp) (u .lr) pc d) ≡ popOf (lent base (now (stack .entry))) list 15 (regs (now (r .entry)) sp lr pc d)) ⌝ }
 {
-    let mut at = sp as u64;
+    let mut o = (sp - base) as usize;
     let mut back = lr;
     for x in 0..15 {
         if has(list, x) {
-            match load(base, stack, at) {
-                Loaded::Word(w) => {
-                    back = set_reg(r, back, x, w);
-                    at = at + 4;
-                }
-                Loaded::Refused(why) => {
-                    return Undone {
-                        verdict: Verdict::Refused(why),
-                        sp: at,
-                        lr: back,
-                    };
-                }
-            }
+            back = set_reg(r, back, x, lent::word32_in(stack, o));
+            o = o + 4;
         }
     }
+    moved((base as u64) + (o as u64), back)
+}
+
+// Pops a list by rising number, LR as 14 at last (RULES 3.11).
+fn pop(list: u32, r: &mut [u32; 13], sp: u32, lr: u32, base: u32, stack: &[u8]) -> Undone
+    ensures { λ u. ⌜ ((pc : ℕ) (d : List ℕ) → came (u .verdict) (regs (now (r .exit)) (u .sp) (u .lr) pc d) ≡ popOf (lent base (now (stack .entry))) list 15 (regs (now (r .entry)) sp lr pc d)) ⌝ }
+{
+    if room(list, sp, base, stack) {
+        return pop_in(list, r, sp, lr, base, stack);
+    }
+    if words_listed(list) == 0 {
+        return moved(sp as u64, lr);
+    }
     Undone {
-        verdict: Verdict::Given,
-        sp: at,
-        lr: back,
+        verdict: Verdict::Refused(Refusal::BadStack),
+        sp: sp as u64,
+        lr,
     }
 }
 
 // Pops dS to dE by rising number (RULES 3.12).
-fn vpop(s: u8, e: u8, d: &mut [u64; 32], sp: u32, lr: u32, base: u32, stack: &[u8]) -> Undone
+fn vpop(s: u32, e: u32, d: &mut [u64; 32], sp: u32, lr: u32, base: u32, stack: &[u8]) -> Undone
     ensures { λ u. ⌜ ((r : List ℕ) (pc : ℕ) → came (u .verdict) (regs r (u .sp) (u .lr) pc (now (d .exit))) ≡ vpopOf (lent base (now (stack .entry))) s (e + 1 - s) (regs r sp lr pc (now (d .entry)))) ⌝ }
 {
     let mut at = sp as u64;
@@ -230,17 +262,6 @@ fn load_lr(n: StackWords, r: &mut [u32; 13], sp: u32, lr: u32, base: u32, stack:
             sp: at,
             lr,
         },
-    }
-}
-
-// SP moves, and nothing else.
-fn moved(sp: u64, lr: u32) -> Undone
-    ensures { λ u. ⌜ u ≡ record { verdict = Verdict.Given; sp = sp; lr = lr } ⌝ }
-{
-    Undone {
-        verdict: Verdict::Given,
-        sp,
-        lr,
     }
 }
 
@@ -304,20 +325,63 @@ fn undo_one(
     }
 }
 
-// Ended here, with no code run.
-fn end_here(verdict: Verdict, sp: u32, lr: u32) -> Ended
-    ensures { λ u. ⌜ u ≡ record { verdict = verdict; sp = sp; lr = lr; codes = 0 } ⌝ }
+// What the codes came to, by the number that they ended with.
+fn end_by(w: u32, sp: u32, lr: u32, codes: usize, bad: usize) -> Ended
+    ensures { λ u. ⌜ u ≡ record { verdict = outcome w bad; sp = sp; lr = lr; codes = codes } ⌝ }
 {
+    let verdict = match w {
+        0 => Verdict::Given,
+        6 => Verdict::Refused(Refusal::BadCodes(CodeBytes(bad))),
+        _ => Verdict::Refused(Refusal::BadStack),
+    };
     Ended {
         verdict,
         sp,
         lr,
-        codes: 0,
+        codes,
     }
 }
 
-// Runs the codes from an index on, in place: the one there, and on what it left those behind it (RULES 3.15).
+// Runs the codes from an index on, in place: the one there, and on what it left those behind it (RULES 3.15). The answer is a number, which
+// a return does not copy: 0, or the refusal's. So SP and LR are lent too (`m`), and the count and the index that refusal 6 holds (`e`).
+// The count is at most the index, since each code has a byte, so that it fits.
 fn run_on(
+    t: &[u8; 256],
+    codes: &[u8],
+    at: CodeBytes,
+    r: &mut [u32; 13],
+    d: &mut [u64; 32],
+    m: &mut [u32; 2],
+    e: &mut [usize; 2],
+    base: u32,
+    stack: &[u8],
+) -> u32
+    requires { ⌜ (now t ≡ rowNumbers) × (getD (now e) 0 0 ≤ at .0) ⌝ }
+    ensures { λ w. ⌜ ((pc : ℕ) → came (outcome w (getD (now (e .exit)) 1 0)) (regs (now (r .exit)) (getD (now (m .exit)) 0 0) (getD (now (m .exit)) 1 0) pc (now (d .exit))) ≡ runAt (lent base (now (stack .entry))) (now (codes .entry)) at (regs (now (r .entry)) (getD (now (m .entry)) 0 0) (getD (now (m .entry)) 1 0) pc (now (d .entry)))) × Counted (outcome w (getD (now (e .exit)) 1 0)) (getD (now (e .exit)) 0 0) (getD (now (e .entry)) 0 0 + length (scan (now (codes .entry)) at .list)) ⌝ }
+{
+    match codes::take_at(t, codes, at) {
+        Taken::One(code, next) => {
+            let first = undo_one(code, r, d, m[0], m[1], base, stack);
+            let verdict = first.verdict;
+            if let Verdict::Refused(_) = verdict {
+                return 8;
+            }
+            *m = [first.sp, first.lr];
+            let count = e[0] + 1;
+            *e = [count, 0];
+            run_on(t, codes, next, r, d, m, e, base, stack)
+        }
+        Taken::Last(_) => 0,
+        Taken::Bad(i) => {
+            *e = [0, i.0];
+            6
+        }
+    }
+}
+
+// Runs the codes from an index on, in place, by the table of `codes::row_table`, which its caller has made once for many lists.
+pub fn run_in(
+    t: &[u8; 256],
     codes: &[u8],
     at: CodeBytes,
     r: &mut [u32; 13],
@@ -327,61 +391,11 @@ fn run_on(
     base: u32,
     stack: &[u8],
 ) -> Ended
+    requires { ⌜ now t ≡ rowNumbers ⌝ }
     ensures { λ u. ⌜ ((pc : ℕ) → came (u .verdict) (regs (now (r .exit)) (u .sp) (u .lr) pc (now (d .exit))) ≡ runAt (lent base (now (stack .entry))) (now (codes .entry)) at (regs (now (r .entry)) sp lr pc (now (d .entry)))) × Counted (u .verdict) (u .codes) (length (scan (now (codes .entry)) at .list)) ⌝ }
 {
-    match codes::take_at(codes, at) {
-        Taken::One(code, next) => {
-            let first = undo_one(code, r, d, sp, lr, base, stack);
-            let verdict = first.verdict;
-            if let Verdict::Refused(why) = verdict {
-                return end_here(Verdict::Refused(why), sp, lr);
-            }
-            let rest = run_on(codes, next, r, d, first.sp, first.lr, base, stack);
-            let end = rest.verdict;
-            let count = rest.codes + 1;
-            Ended {
-                verdict: end,
-                sp: rest.sp,
-                lr: rest.lr,
-                codes: count,
-            }
-        }
-        Taken::Last(_) => end_here(Verdict::Given, sp, lr),
-        Taken::Bad(i) => end_here(Verdict::Refused(Refusal::BadCodes(i)), sp, lr),
-    }
-}
-
-// No code run, by this refusal.
-fn stopped(g: Regs, why: Refusal) -> Ran
-    ensures { λ x. ⌜ x ≡ ran g 0 (refuse why) ⌝ }
-{
-    Ran {
-        verdict: Verdict::Refused(why),
-        regs: g,
-        codes: 0,
-    }
-}
-
-// Runs the codes from an index on. A refusal has the registers as they came, and no code counts.
-pub fn run(codes: &[u8], at: CodeBytes, g: Regs, base: u32, stack: &[u8]) -> Ran
-    ensures { λ r. ⌜ r ≡ ran g (length (scan (now (codes .entry)) at .list)) (runAt (lent base (now (stack .entry))) (now (codes .entry)) at g) ⌝ }
-{
-    let mut r = g.r;
-    let mut d = g.d;
-    let u = run_on(codes, at, &mut r, &mut d, g.sp, g.lr, base, stack);
-    let verdict = u.verdict;
-    if let Verdict::Refused(why) = verdict {
-        return stopped(g, why);
-    }
-    Ran {
-        verdict: Verdict::Given,
-        regs: Regs {
-            r,
-            sp: u.sp,
-            lr: u.lr,
-            pc: g.pc,
-            d,
-        },
-        codes: u.codes,
-    }
+    let mut m = [sp, lr];
+    let mut e = [0, 0];
+    let w = run_on(t, codes, at, r, d, &mut m, &mut e, base, stack);
+    end_by(w, m[0], m[1], e[0], e[1])
 }

@@ -15,8 +15,7 @@ use Rattle.packed.specs.Packed.{fields, allowed}
 use Rattle.packed_codes.specs.PackedCodes.{firstList, secondList, written, writeCodes, codesAnswer}
 use Rattle.packed.specs.declared.Packed.{Packed}
 use Rattle.packed_codes.specs.declared.CodesOf.{CodesOf}
-use Rattle.packed_codes.specs.as_coded.Out.{blank, puts}
-use Rattle.packed_codes.specs.declared.Out.{Out}
+use Rattle.packed_codes.specs.as_coded.Out.{Out, blank, puts}
 use Rattle.packed_codes.proofs.Buffer.{holding, puts-holding, holding-bytes}
 use Rattle.packed_codes.proofs.Lengths.{lists-fit}
 
@@ -52,15 +51,15 @@ module _ (p : Packed) (one two : Out) (e : one ≡ puts blank (firstList p)) (f 
   pub second-out : two ≡ holding (firstList p ++ secondList p)
   second-out = f ∙ ap (λ o. puts o (secondList p)) first-out ∙ puts-holding (firstList p) (secondList p) (lists-fit p)
 
-  lengths : two .len ≡ one .len + length (secondList p)
-  lengths = ap (λ o. o .len) second-out ∙ length-append (firstList p) (secondList p) ∙ ap (λ n. n + length (secondList p)) (sym (ap (λ o. o .len) first-out))
+  lengths : two .1 ≡ one .1 + length (secondList p)
+  lengths = ap (λ o. o .1) second-out ∙ length-append (firstList p) (secondList p) ∙ ap (λ n. n + length (secondList p)) (sym (ap (λ o. o .1) first-out))
 
-  pub second-longer : one .len ≤ two .len
+  pub second-longer : one .1 ≤ two .1
   second-longer = omega (arith, lengths)
 
   pub codes-written :
-      record { verdict = Given; bytes = two .bytes; first = codeBytes (one .len); second = codeBytes (two .len - one .len) } ≡ written p
+      record { verdict = Given; bytes = two .0; first = codeBytes (one .1); second = codeBytes (two .1 - one .1) } ≡ written p
   codes-written =
-      let all : two .bytes ≡ take 16 (firstList p ++ secondList p ++ replicate 16 0) = ap (λ o. o .bytes) second-out ∙ sym (holding-bytes (firstList p ++ secondList p) (omega (arith, length-append (firstList p) (secondList p), lists-fit p))) in
-      let second : two .len - one .len ≡ length (secondList p) = omega (arith, lengths) in
-      λ i. record { verdict = Given; bytes = all i; first = codeBytes (first-out i .len); second = codeBytes (second i) }
+      let all : two .0 ≡ take 16 (firstList p ++ secondList p ++ replicate 16 0) = ap (λ o. o .0) second-out ∙ sym (holding-bytes (firstList p ++ secondList p) (omega (arith, length-append (firstList p) (secondList p), lists-fit p))) in
+      let second : two .1 - one .1 ≡ length (secondList p) = omega (arith, lengths) in
+      λ i. record { verdict = Given; bytes = all i; first = codeBytes (first-out i .1); second = codeBytes (second i) }

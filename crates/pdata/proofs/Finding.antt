@@ -20,6 +20,13 @@ use Rattle.pdata.specs.Pdata.{entriesFrom, entries, entryAt, starts, las
 abbrev pub startAt : List ℕ → ℕ → ℕ
 startAt s i = even (word32 s (8 * i))
 
+-- a word's start is at or below an address exactly if the word is at or below that address with bit 0 set
+pub start-up-to : (w a : ℕ) → w ≤ even a + 1 → even w ≤ even a
+start-up-to w a h = omega arith
+
+pub start-above : (w a : ℕ) → even a + 1 < w → a < even w
+start-above w a h = omega arith
+
 -- the order of the records from number i on, of n
 abbrev pub ascendingFrom : List ℕ → (i n : ℕ) → Bool
 ascendingFrom s i n = ascending (map (λ e. e .start) (entriesFrom s i (n - i)))

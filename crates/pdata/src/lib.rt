@@ -2,10 +2,8 @@
 use words::Refusal;
 ghost use mathlib.Core.Path.{_≡_};
 ghost use mathlib.Core.Bool.{true};
-ghost use Prim.Native.Nat.{_+_, _*_, _/_, _<_, _-_, _%_};
+ghost use Prim.Native.Nat.{_/_, _<_};
 ghost use lib.ListN.{length};
-ghost use Rattle.words.specs.Bits.{even as evenOf};
-ghost use Rattle.lent.specs.Little.{word32};
 ghost use Rattle.words.specs.Answer.{ok, refuse};
 ghost use Rattle.unwinding.specs.View.{ascending as ascendingOf};
 ghost use Rattle.pdata.specs.Pdata.{entries, entryAt, starts, lastUpTo, find as findOf, findRva, found, checked as checkedOf};
@@ -38,45 +36,31 @@ pub fn records(pdata: &[u8]) -> usize
     pdata.len() / 8
 }
 
-// The word at 8 x i + k; 0 past the end.
-fn word_of(pdata: &[u8], i: usize, k: usize) -> u32
-    requires { ⌜ k < 8 ⌝ }
-    ensures { λ r. ⌜ r ≡ word32 (now (pdata .entry)) (8 * i + k) ⌝ }
-{
-    if pdata.len() / 8 < i {
-        return 0;
-    }
-    lent::word32(pdata, 8 * i + k)
-}
-
-// The start of record i, with bit 0 cleared.
-fn start_at(pdata: &[u8], i: usize) -> u32
-    ensures { λ r. ⌜ r ≡ evenOf (word32 (now (pdata .entry)) (8 * i)) ⌝ }
-{
-    words::even(word_of(pdata, i, 0))
-}
-
-// Record i.
-pub fn entry_at(pdata: &[u8], i: usize) -> Entry
+// Record i, one of those in the table: the caller has found it there. Both words are read as one: a word of which bit 0 is cleared at
+// once would be read byte by byte.
+fn entry_in(pdata: &[u8], i: usize) -> Entry
+    requires { ⌜ i < length (now pdata) / 8 ⌝ }
     ensures { λ r. ⌜ r ≡ entryAt (now (pdata .entry)) i ⌝ }
 {
+    let both = lent::word64_in(pdata, 8 * i);
     Entry {
         number: i,
-        start: start_at(pdata, i),
-        word: word_of(pdata, i, 4),
+        start: words::even((both % 4294967296) as u32),
+        word: (both / 4294967296) as u32,
     }
 }
 
-// Whether each start in the table is greater than the one before (RULES 2.3).
+// Whether each start in the table is greater than the one before (RULES 2.3). A word's start is at or below another's exactly if the word
+// is at or below the other with bit 0 set, so the words are compared as they stand.
 pub fn ascending(pdata: &[u8]) -> bool
     ensures { λ r. ⌜ r ≡ ascendingOf (starts (now (pdata .entry))) ⌝ }
 {
     let n = records(pdata);
     let mut i = 0;
-    let mut last = start_at(pdata, 0);
+    let mut last = lent::word32(pdata, 0);
     while i + 1 < n {
-        let next = start_at(pdata, i + 1);
-        if next <= last {
+        let next = lent::word32_in(pdata, 8 * (i + 1));
+        if next <= words::even(last) + 1 {
             return false;
         }
         last = next;
@@ -85,15 +69,16 @@ pub fn ascending(pdata: &[u8]) -> bool
     true
 }
 
-// The last record that starts at or below an RVA, by halving, in a table that ascends.
+// The last record that starts at or below an RVA, by halving, in a table that ascends; words are compared as in `ascending`.
 fn search(pdata: &[u8], rva: u32) -> Found
     ensures { λ r. ⌜ (ascendingOf (starts (now (pdata .entry))) ≡ true → r ≡ found (ok (lastUpTo (entries (now (pdata .entry))) rva))) ⌝ }
 {
+    let top = words::even(rva) + 1;
     let mut low = 0;
     let mut high = records(pdata);
     while low < high {
         let mid = low + (high - low) / 2;
-        if start_at(pdata, mid) <= rva {
+        if lent::word32_in(pdata, 8 * mid) <= top {
             low = mid + 1;
         } else {
             high = mid;
@@ -102,7 +87,7 @@ fn search(pdata: &[u8], rva: u32) -> Found
     if low == 0 {
         return Found::Nothing;
     }
-    Found::Record(entry_at(pdata, low - 1))
+    Found::Record(entry_in(pdata, low - 1))
 }
 
 // What finding asks of the table alone: a walk asks it once.

@@ -1,18 +1,19 @@
 -- The one pass over a record (specs/Look.antt) finds what `view` and `todo` say.
 -- Assumes nothing.
-use Prim.Native.Nat.{ℕ, _+_, _-_, _≤_, _<_}
+use Prim.Native.Nat.{ℕ, zero, suc, _+_, _-_, _≤_, _<_}
 use mathlib.Core.Path.{_≡_, refl, sym, ap, _∙_, subst}
 use mathlib.Core.List.{List, [], _∷_, map}
 use mathlib.Core.Bool.{Bool, true, false, _&&_, _||_}
+use mathlib.Core.Option.{Option, none, some}
 use lib.Dec.{leb, ltb}
+use lib.ListN.{length, getElem?}
 use native.Mathlib.Omega.{arith}
-use borrow.Author.Tests.{ltb-true, leb-true}
+use borrow.Author.Tests.{ltb-true, leb-true, lt-leb, le-ltb}
 use Rattle.words.proofs.Tests.{both}
 use Rattle.words.specs.Units.{codeBytes}
 use Rattle.words.specs.declared.CodeBytes.{CodeBytes}
 use Rattle.words.specs.declared.Place.{Place}
 use Rattle.words.specs.declared.Place.the-variants.{Prologue, Body, Epilogue}
-use Rattle.words.specs.declared.Refusal.{Refusal}
 use Rattle.words.specs.declared.Refusal.the-variants.{BadLayout, InsideInstruction, Conditional}
 use Rattle.words.specs.declared.Verdict.{Verdict}
 use Rattle.words.specs.declared.Verdict.the-variants.{Given, Refused}
@@ -31,12 +32,9 @@ use Rattle.codes.specs.Code.{size, scan, codesAt}
 use Rattle.codes.specs.Condition.{executing}
 use Rattle.reader.specs.as_coded.Skip.{skipAt}
 use Rattle.reader.proofs.SkipEnds.{codesBehind, skip-ends, skip-ending}
-use Rattle.place.specs.as_coded.Look.{epilogueSpan, stretchOf, hereOf, see, unseen, lookFrom, noSpot, bySkip, skipped, ifAlways, inHere, inSeen, judged, prologueOf, spotOf}
+use Rattle.place.specs.as_coded.Look.{epilogueSpan, stretchOf, hits, see, unseen, lookFrom, spot, noSpot, bySkip, skipped, ifAlways, inEpilogue as inSpan, inHere, inSeen, judged, prologueOf, passedBy, passed, spotBy, spotOf}
 use Rattle.place.specs.declared.EpilogueSpan.{EpilogueSpan}
-use Rattle.place.specs.declared.Here.{Here}
-use Rattle.place.specs.declared.Here.the-variants.{Miss, In}
 use Rattle.place.specs.declared.Seen.{Seen}
-use Rattle.place.specs.declared.Looked.{Looked}
 use Rattle.place.specs.declared.Looked.the-variants.{All, Bad}
 use Rattle.place.specs.declared.Spot.{Spot}
 
@@ -89,29 +87,29 @@ module _ (sh : Shape) where
               ap (λ m. ok (record { start = startOf (e .start) (sh .span) (total size (scan s (e .index) .list) + n); size = total size (scan s (e .index) .list) + n; condition = e .condition; codes = record { list = scan s (e .index) .list; endSize = m } } ∷ map (spanEpilogue s) ws)) (sym same)
 
 -- ---- what is seen of them
-seenAll : (span offset : ℕ) → Seen → List EpilogueSpan → Seen
-seenAll span o seen [] = seen
-seenAll span o seen (w ∷ ws) = seenAll span o (see span o seen w) ws
+seenAll : (span offset number : ℕ) → Seen → List EpilogueSpan → Seen
+seenAll span o k seen [] = seen
+seenAll span o k seen (w ∷ ws) = seenAll span o (k + 1) (see span o k seen w) ws
 
 look-spans :
-    (s : List ℕ) (span o : ℕ) (seen : Seen) (es : List Scope)
-    → lookFrom s span o seen es ≡ either (spans s span es) Bad (λ ws. All (seenAll span o seen ws))
+    (s : List ℕ) (span o k : ℕ) (seen : Seen) (es : List Scope)
+    → lookFrom s span o k seen es ≡ either (spans s span es) Bad (λ ws. All (seenAll span o k seen ws))
 unfolding lookFrom spans seenAll
-look-spans s span o seen [] = refl
-look-spans s span o seen (e ∷ es) = go (codesAt s (e .index)) (λ c. look-spans s span o (see span o seen (epilogueSpan span e c)) es)
+look-spans s span o k seen [] = refl
+look-spans s span o k seen (e ∷ es) = go (codesAt s (e .index)) (λ c. look-spans s span o (k + 1) (see span o k seen (epilogueSpan span e c)) es)
   where
     go :
         (x : Res (Codes Code))
-        → ((c : Codes Code) → lookFrom s span o (see span o seen (epilogueSpan span e c)) es ≡ either (spans s span es) Bad (λ ws. All (seenAll span o (see span o seen (epilogueSpan span e c)) ws)))
-        → either x Bad (λ c. lookFrom s span o (see span o seen (epilogueSpan span e c)) es)
-        ≡ either (x >>= λ c. spans s span es >>= λ rest. ok (epilogueSpan span e c ∷ rest)) Bad (λ ws. All (seenAll span o seen ws))
+        → ((c : Codes Code) → lookFrom s span o (k + 1) (see span o k seen (epilogueSpan span e c)) es ≡ either (spans s span es) Bad (λ ws. All (seenAll span o (k + 1) (see span o k seen (epilogueSpan span e c)) ws)))
+        → either x Bad (λ c. lookFrom s span o (k + 1) (see span o k seen (epilogueSpan span e c)) es)
+        ≡ either (x >>= λ c. spans s span es >>= λ rest. ok (epilogueSpan span e c ∷ rest)) Bad (λ ws. All (seenAll span o k seen ws))
     go (refuse r) ih = refl
     go (ok c) ih = ih c ∙ rest (spans s span es)
       where
         rest :
             (y : Res (List EpilogueSpan))
-            → either y Bad (λ ws. All (seenAll span o (see span o seen (epilogueSpan span e c)) ws))
-            ≡ either (y >>= λ rest. ok (epilogueSpan span e c ∷ rest)) Bad (λ ws. All (seenAll span o seen ws))
+            → either y Bad (λ ws. All (seenAll span o (k + 1) (see span o k seen (epilogueSpan span e c)) ws))
+            ≡ either (y >>= λ rest. ok (epilogueSpan span e c ∷ rest)) Bad (λ ws. All (seenAll span o k seen ws))
         rest (refuse r) = refl
         rest (ok ws) = refl
 
@@ -121,16 +119,16 @@ and-assoc false b c = refl
 
 -- whether they stand in line
 seen-fits :
-    (span o : ℕ) (seen : Seen) (ws : List EpilogueSpan)
-    → seenAll span o seen ws .fits ≡ (seen .fits && lined span (seen .floor) (seen .reach) (map stretchOf ws))
+    (span o k : ℕ) (seen : Seen) (ws : List EpilogueSpan)
+    → seenAll span o k seen ws .fits ≡ (seen .fits && lined span (seen .floor) (seen .reach) (map stretchOf ws))
 unfolding seenAll
-seen-fits span o seen [] = go (seen .fits)
+seen-fits span o k seen [] = go (seen .fits)
   where
     go : (a : Bool) → a ≡ (a && true)
     go true = refl
     go false = refl
-seen-fits span o seen (w ∷ ws) =
-    seen-fits span o (see span o seen w) ws
+seen-fits span o k seen (w ∷ ws) =
+    seen-fits span o (k + 1) (see span o k seen w) ws
     ∙ and-assoc (seen .fits) (next span (seen .floor) (seen .reach) (stretchOf w))
     (lined span (w .start + 1) (reachOf (seen .reach) (stretchOf w)) (map stretchOf ws))
 
@@ -139,72 +137,193 @@ same-stretches s [] = refl
 same-stretches s (w ∷ ws) = ap (λ l. stretchOf w ∷ l) (same-stretches s ws)
 
 fits-seen :
-    (s : List ℕ) (span o p : ℕ) (ws : List EpilogueSpan) → fits span p (map (spanEpilogue s) ws) ≡ seenAll span o (unseen span p) ws .fits
-fits-seen s span o p ws =
-    fits-lined span p (map (spanEpilogue s) ws) ∙ ap (λ l. leb p span && lined span 0 p l) (same-stretches s ws) ∙ sym (seen-fits span o (unseen span p) ws)
+    (s : List ℕ) (span o p n : ℕ) (ws : List EpilogueSpan) → fits span p (map (spanEpilogue s) ws) ≡ seenAll span o 0 (unseen span p n) ws .fits
+fits-seen s span o p n ws =
+    fits-lined span p (map (spanEpilogue s) ws) ∙ ap (λ l. leb p span && lined span 0 p l) (same-stretches s ws) ∙ sym (seen-fits span o 0 (unseen span p n) ws)
 
 -- 6 and 7 by the pass, whatever the offset
 module _ (sh : Shape) (o : ℕ) where
-  pub view-looked :
-      (n : ℕ) → scan (sh .codes) (codeBytes 0) .ending ≡ ok n
-      → (let p = prologueOf (sh .fragment) (record { list = scan (sh .codes) (codeBytes 0) .list; endSize = n }) in
-      judged (lookFrom (sh .codes) (sh .span) o (unseen (sh .span) p) (sh .scopes)) ≡ verdict (view size codesAt sh))
+  pub view-passed : judged (passed (sh .codes) (sh .span) (sh .fragment) (sh .scopes) o .looked) ≡ verdict (view size codesAt sh)
   unfolding view
-  view-looked n e =
-      rw (e, epilogues-spans sh (sh .scopes), look-spans (sh .codes) (sh .span) o (unseen (sh .span) p) (sh .scopes)) (all (spans (sh .codes) (sh .span) (sh .scopes)))
+  view-passed = go (scan (sh .codes) (codeBytes 0) .ending)
     where
-      first : Codes Code
-      first = record { list = scan (sh .codes) (codeBytes 0) .list; endSize = n }
-
-      p : ℕ
-      p = prologueOf (sh .fragment) first
+      first : ℕ → Codes Code
+      first n = record { list = scan (sh .codes) (codeBytes 0) .list; endSize = n }
 
       last :
-          (es : List (EpilogueOf Code)) (b : Bool)
-          → (if b then Given else Refused BadLayout) ≡ verdict {A = View Code} (need b BadLayout >> ok (record { codes = first; prologue = p; epilogues = es }))
-      last es true = refl
-      last es false = refl
+          (c : Codes Code) (es : List (EpilogueOf Code)) (b : Bool)
+          → (if b then Given else Refused BadLayout) ≡ verdict {A = View Code} (need b BadLayout >> ok (record { codes = c; prologue = prologueOf (sh .fragment) c; epilogues = es }))
+      last c es true = refl
+      last c es false = refl
 
       all :
-          (y : Res (List EpilogueSpan))
-          → judged (either y Bad (λ ws. All (seenAll (sh .span) o (unseen (sh .span) p) ws)))
-          ≡ verdict {A = View Code} ((y >>= λ ws. ok (map (spanEpilogue (sh .codes)) ws)) >>= λ es. need (fits (sh .span) p es) BadLayout >> ok (record { codes = first; prologue = p; epilogues = es }))
-      all (refuse r) = refl
-      all (ok ws) = rw (fits-seen (sh .codes) (sh .span) o p ws) (last (map (spanEpilogue (sh .codes)) ws) (seenAll (sh .span) o (unseen (sh .span) p) ws .fits))
+          (c : Codes Code) (y : Res (List EpilogueSpan))
+          → judged (either y Bad (λ ws. All (seenAll (sh .span) o 0 (unseen (sh .span) (prologueOf (sh .fragment) c) (length (sh .scopes))) ws)))
+          ≡ verdict {A = View Code} ((y >>= λ ws. ok (map (spanEpilogue (sh .codes)) ws)) >>= λ es. need (fits (sh .span) (prologueOf (sh .fragment) c) es) BadLayout >> ok (record { codes = c; prologue = prologueOf (sh .fragment) c; epilogues = es }))
+      all c (refuse r) = refl
+      all c (ok ws) =
+          let p = prologueOf (sh .fragment) c in
+          rw (fits-seen (sh .codes) (sh .span) o p (length (sh .scopes)) ws)
+          (last c (map (spanEpilogue (sh .codes)) ws) (seenAll (sh .span) o 0 (unseen (sh .span) p (length (sh .scopes))) ws .fits))
 
-  pub view-unread : (r : Refusal) → scan (sh .codes) (codeBytes 0) .ending ≡ refuse r → Refused r ≡ verdict (view size codesAt sh)
-  unfolding view
-  view-unread r e = rw e refl
+      go :
+          (x : Res ℕ)
+          → judged (passedBy (sh .codes) (sh .span) (sh .fragment) (sh .scopes) o (x >>= λ n. ok (first n)) .looked)
+          ≡ verdict {A = View Code} ((x >>= λ n. ok (first n)) >>= λ c. epilogues size codesAt sh (sh .scopes) >>= λ es. need (fits (sh .span) (prologueOf (sh .fragment) c) es) BadLayout >> ok (record { codes = c; prologue = prologueOf (sh .fragment) c; epilogues = es }))
+      go (refuse r) = refl
+      go (ok n) =
+          rw
+          (epilogues-spans sh (sh .scopes), look-spans (sh .codes) (sh .span) o 0 (unseen (sh .span) (prologueOf (sh .fragment) (first n)) (length (sh .scopes))) (sh .scopes))
+          (all (first n) (spans (sh .codes) (sh .span) (sh .scopes)))
 
--- which one the offset falls into
-hereAll : (offset : ℕ) → Here → List EpilogueSpan → Here
-hereAll o h [] = h
-hereAll o h (w ∷ ws) = hereAll o (hereOf o h w) ws
+-- the first that the offset falls into
+hit : (offset : ℕ) → List EpilogueSpan → Option EpilogueSpan
+hit o [] = none
+hit o (w ∷ ws) = let later = hit o ws in if hits o w then some w else later
 
-seen-here : (span o : ℕ) (seen : Seen) (ws : List EpilogueSpan) → seenAll span o seen ws .here ≡ hereAll o (seen .here) ws
-unfolding seenAll hereAll
-seen-here span o seen [] = refl
-seen-here span o seen (w ∷ ws) = seen-here span o (see span o seen w) ws
+abbrev todoHit : (codes : List ℕ) → (offset : ℕ) → (body : List Code) → Option EpilogueSpan → Res (Todo Code)
+todoHit s o cs none = ok (record { place = Body; codes = cs })
+todoHit s o cs (some w) = inEpilogue size executing (spanEpilogue s w) o
 
-here-stays : (o : ℕ) (v : EpilogueSpan) (ws : List EpilogueSpan) → hereAll o (In v) ws ≡ In v
-unfolding hereAll
-here-stays o v [] = refl
-here-stays o v (w ∷ ws) = here-stays o v ws
-
-abbrev todoHere : (codes : List ℕ) → (offset : ℕ) → (body : List Code) → Here → Res (Todo Code)
-todoHere s o cs Miss = ok (record { place = Body; codes = cs })
-todoHere s o cs (In w) = inEpilogue size executing (spanEpilogue s w) o
-
-epilogues-here : (s : List ℕ) (o : ℕ) (cs : List Code) (ws : List EpilogueSpan) → inEpilogues size executing (map (spanEpilogue s) ws) o cs ≡ todoHere s o cs (hereAll o Miss ws)
-unfolding inEpilogues hereAll
-epilogues-here s o cs [] = refl
-epilogues-here s o cs (w ∷ ws) = go (leb (w .start) o && ltb o (w .start + w .size)) (epilogues-here s o cs ws)
+epilogues-hit : (s : List ℕ) (o : ℕ) (cs : List Code) (ws : List EpilogueSpan) → inEpilogues size executing (map (spanEpilogue s) ws) o cs ≡ todoHit s o cs (hit o ws)
+unfolding inEpilogues hit
+epilogues-hit s o cs [] = refl
+epilogues-hit s o cs (w ∷ ws) = go (hits o w) (epilogues-hit s o cs ws)
   where
     go :
-        (x : Bool) → inEpilogues size executing (map (spanEpilogue s) ws) o cs ≡ todoHere s o cs (hereAll o Miss ws)
-        → (if x then inEpilogue size executing (spanEpilogue s w) o else inEpilogues size executing (map (spanEpilogue s) ws) o cs) ≡ todoHere s o cs (hereAll o (if x then In w else Miss) ws)
-    go true ih = sym (ap (todoHere s o cs) (here-stays o w ws))
+        (x : Bool) → inEpilogues size executing (map (spanEpilogue s) ws) o cs ≡ todoHit s o cs (hit o ws)
+        → (if x then inEpilogue size executing (spanEpilogue s w) o else inEpilogues size executing (map (spanEpilogue s) ws) o cs) ≡ todoHit s o cs (if x then some w else hit o ws)
+    go true ih = refl
     go false ih = ih
+
+-- ---- where the epilogues stand in line, the offset falls into one at most, and the pass keeps its number
+module _ (span o : ℕ) where
+  -- a number that no later epilogue is below
+  number-above : (j k : ℕ) (seen : Seen) (ws : List EpilogueSpan) → j ≤ k → j ≤ seen .at → j ≤ seenAll span o k seen ws .at
+  unfolding seenAll
+  number-above j k seen [] h n = n
+  number-above j k seen (w ∷ ws) h n = number-above j (k + 1) (see span o k seen w) ws (omega arith) (go (hits o w))
+    where
+      go : (x : Bool) → j ≤ (if x then k else seen .at)
+      go true = h
+      go false = n
+
+  -- one that stands behind what is reached is not hit by an offset before that
+  behind : (floor reach : ℕ) (w : EpilogueSpan) → next span floor reach (stretchOf w) ≡ true → o < reach → (hits o w ≡ false) × (o < reachOf reach (stretchOf w))
+  behind floor reach w e l = go (leb (w .start + w .size) (w .start)) refl (both (leb floor (w .start) && leb (w .start + w .size) span) _ e .1)
+    where
+      go :
+          (x : Bool) → leb (w .start + w .size) (w .start) ≡ x → (x || leb reach (w .start)) ≡ true
+          → (hits o w ≡ false) × (o < (if x then reach else w .start + w .size))
+      go true q h = (none-in (leb (w .start) o) refl (leb-true _ _ q), l)
+        where
+          none-in : (y : Bool) → leb (w .start) o ≡ y → w .start + w .size ≤ w .start → (y && ltb o (w .start + w .size)) ≡ false
+          none-in true p m = le-ltb o (w .start + w .size) (omega (arith, leb-true (w .start) o p, m))
+          none-in false p m = refl
+      go false q h =
+          let r : reach ≤ w .start = leb-true _ _ h in
+          (rw (lt-leb (w .start) o (omega (arith, r, l))) refl, omega (arith, r, l))
+
+  stays :
+      (k : ℕ) (seen : Seen) (ws : List EpilogueSpan) → lined span (seen .floor) (seen .reach) (map stretchOf ws) ≡ true → o < seen .reach
+      → seenAll span o k seen ws .at ≡ seen .at
+  unfolding seenAll
+  stays k seen [] e l = refl
+  stays k seen (w ∷ ws) e l =
+      let t = both (next span (seen .floor) (seen .reach) (stretchOf w)) _ e in
+      let b = behind (seen .floor) (seen .reach) w (t .0) l in
+      stays (k + 1) (see span o k seen w) ws (t .1) (b .1) ∙ ap (λ x. if x then k else seen .at) (b .0)
+
+  seen-hit :
+      (k : ℕ) (seen : Seen) (ws : List EpilogueSpan) → lined span (seen .floor) (seen .reach) (map stretchOf ws) ≡ true → k + length ws ≤ seen .at
+      → getElem? ws (seenAll span o k seen ws .at - k) ≡ hit o ws
+  unfolding seenAll hit
+  seen-hit k seen [] e n = refl
+  seen-hit k seen (w ∷ ws) e n = go (hits o w) refl (seen-hit (k + 1) (see span o k seen w) ws (both (next span (seen .floor) (seen .reach) (stretchOf w)) _ e .1))
+    where
+      rest : Seen
+      rest = see span o k seen w
+
+      go :
+          (x : Bool) → hits o w ≡ x → (k + 1 + length ws ≤ rest .at → getElem? ws (seenAll span o (k + 1) rest ws .at - (k + 1)) ≡ hit o ws)
+          → getElem? (w ∷ ws) (seenAll span o (k + 1) rest ws .at - k) ≡ (if x then some w else hit o ws)
+      go true q ih =
+          let h = both (leb (w .start) o) (ltb o (w .start + w .size)) q in
+          let l : o < w .start + w .size = ltb-true _ _ (h .1) in
+          let f : leb (w .start + w .size) (w .start) ≡ false = lt-leb (w .start + w .size) (w .start) (omega (arith, l, leb-true (w .start) o (h .0))) in
+          let r : o < reachOf (seen .reach) (stretchOf w) = rw f l in
+          let a : seenAll span o (k + 1) rest ws .at ≡ k = stays (k + 1) rest ws (both (next span (seen .floor) (seen .reach) (stretchOf w)) _ e .1) r ∙ ap (λ x. if x then k else seen .at) q in
+          let z : seenAll span o (k + 1) rest ws .at - k ≡ 0 = omega (arith, a) in
+          ap (getElem? (w ∷ ws)) z
+      go false q ih =
+          let a : rest .at ≡ seen .at = ap (λ x. if x then k else seen .at) q in
+          let m : k + 1 ≤ seenAll span o (k + 1) rest ws .at = number-above (k + 1) (k + 1) rest ws (omega arith) (omega (arith, a, n)) in
+          let z : seenAll span o (k + 1) rest ws .at - k ≡ suc (seenAll span o (k + 1) rest ws .at - (k + 1)) = omega (arith, m) in
+          ap (getElem? (w ∷ ws)) z ∙ ih (omega (arith, a, n))
+
+-- an epilogue has the number of its scope
+abbrev inHit : (codes : List ℕ) → (offset : ℕ) → Option EpilogueSpan → Spot
+inHit s o h = maybe h (spot Body (codeBytes 0)) (inSpan s o)
+
+spans-length : (s : List ℕ) (span : ℕ) (es : List Scope) (ws : List EpilogueSpan) → spans s span es ≡ ok ws → length ws ≡ length es
+unfolding spans
+spans-length s span [] ws h = let e : [] ≡ ws = cc in ap length (sym e)
+spans-length s span (e ∷ es) ws h = go (codesAt s (e .index)) (spans s span es) refl h (λ rest q. spans-length s span es rest q)
+  where
+    go :
+        (x : Res (Codes Code)) (y : Res (List EpilogueSpan)) → spans s span es ≡ y
+        → (x >>= λ c. y >>= λ rest. ok (epilogueSpan span e c ∷ rest)) ≡ ok ws
+        → ((rest : List EpilogueSpan) → spans s span es ≡ ok rest → length rest ≡ length es)
+        → length ws ≡ suc (length es)
+    go (refuse r) y v h ih = absurd (let z : _≡_ {A = ℕ} 0 1 = cc in omega arith)
+    go (ok c) (refuse r) v h ih = absurd (let z : _≡_ {A = ℕ} 0 1 = cc in omega arith)
+    go (ok c) (ok rest) v h ih = let t : epilogueSpan span e c ∷ rest ≡ ws = cc in ap length (sym t) ∙ ap suc (ih rest v)
+
+spans-number :
+    (s : List ℕ) (span o : ℕ) (es : List Scope) (ws : List EpilogueSpan) → spans s span es ≡ ok ws → (k : ℕ) → inHere s span es o k ≡ inHit s o (getElem? ws k)
+unfolding spans
+spans-number s span o [] ws h k = let e : [] ≡ ws = cc in ap (λ l. inHit s o (getElem? l k)) e
+spans-number s span o (e ∷ es) ws h k =
+    go (codesAt s (e .index)) refl (spans s span es) refl h k (λ rest q j. spans-number s span o es rest q j)
+  where
+    go :
+        (x : Res (Codes Code)) → codesAt s (e .index) ≡ x → (y : Res (List EpilogueSpan)) → spans s span es ≡ y
+        → (x >>= λ c. y >>= λ rest. ok (epilogueSpan span e c ∷ rest)) ≡ ok ws → (k : ℕ)
+        → ((rest : List EpilogueSpan) → spans s span es ≡ ok rest → (j : ℕ) → inHere s span es o j ≡ inHit s o (getElem? rest j))
+        → inHere s span (e ∷ es) o k ≡ inHit s o (getElem? ws k)
+    go (refuse r) q y v h k ih = absurd (let z : _≡_ {A = ℕ} 0 1 = cc in omega arith)
+    go (ok c) q (refuse r) v h k ih = absurd (let z : _≡_ {A = ℕ} 0 1 = cc in omega arith)
+    go (ok c) q (ok rest) v h zero ih =
+        let t : epilogueSpan span e c ∷ rest ≡ ws = cc in
+        ap (λ x. either x noSpot (λ c. inSpan s o (epilogueSpan span e c))) q ∙ ap (λ l. inHit s o (getElem? l 0)) t
+    go (ok c) q (ok rest) v h (suc k) ih =
+        let t : epilogueSpan span e c ∷ rest ≡ ws = cc in
+        ih rest v k ∙ ap (λ l. inHit s o (getElem? l (suc k))) t
+
+-- so the pass ends in the first that the offset falls into
+module _ (s : List ℕ) (span o p : ℕ) (es : List Scope) (ws : List EpilogueSpan) (q : spans s span es ≡ ok ws) where
+  abbrev final : Seen
+  final = seenAll span o 0 (unseen span p (length es)) ws
+
+  passed-here : final .fits ≡ true → inHere s span es o (final .at) ≡ inHit s o (hit o ws)
+  passed-here e =
+      let l = both (leb p span) (lined span 0 p (map stretchOf ws)) (sym (seen-fits span o 0 (unseen span p (length es)) ws) ∙ e) in
+      let n : 0 + length ws ≤ length es = omega (arith, spans-length s span es ws q) in
+      let z : final .at ≡ final .at - 0 = omega arith in
+      spans-number s span o es ws q (final .at) ∙ ap (λ k. inHit s o (getElem? ws k)) z
+      ∙ ap (inHit s o) (seen-hit span o 0 (unseen span p (length es)) ws (l .1) n)
+
+  passed-spot :
+      inSeen s span es p o (All final)
+      ≡ (if final .fits then (if ltb o p then skipped s Prologue (codeBytes 0) (p - o) else inHit s o (hit o ws)) else noSpot BadLayout)
+  passed-spot = go (final .fits) refl
+    where
+      go :
+          (b : Bool) → final .fits ≡ b
+          → (if b then (if ltb o p then skipped s Prologue (codeBytes 0) (p - o) else inHere s span es o (final .at)) else noSpot BadLayout)
+          ≡ (if b then (if ltb o p then skipped s Prologue (codeBytes 0) (p - o) else inHit s o (hit o ws)) else noSpot BadLayout)
+      go true e = ap (λ (h : Spot). if ltb o p then skipped s Prologue (codeBytes 0) (p - o) else h) (passed-here e)
+      go false e = refl
 
 -- an epilogue whose codes are read has their size
 record Made (s : List ℕ) (w : EpilogueSpan) : Type 0 where
@@ -238,21 +357,19 @@ record Inside (s : List ℕ) (o : ℕ) (w : EpilogueSpan) : Type 0 where
   low : w .start ≤ o
   high : o < w .start + w .size
 
-abbrev HereInside : List ℕ → ℕ → Here → Type 0
-HereInside s o Miss = Unit {0}
-HereInside s o (In w) = Inside s o w
+abbrev HitInside : List ℕ → ℕ → Option EpilogueSpan → Type 0
+HitInside s o none = Unit {0}
+HitInside s o (some w) = Inside s o w
 
-here-inside : (s : List ℕ) (o : ℕ) (ws : List EpilogueSpan) → AllMade s ws → HereInside s o (hereAll o Miss ws)
-unfolding hereAll
-here-inside s o [] m = tt
-here-inside s o (w ∷ ws) m = go (leb (w .start) o && ltb o (w .start + w .size)) refl (here-inside s o ws (m .1))
+hit-inside : (s : List ℕ) (o : ℕ) (ws : List EpilogueSpan) → AllMade s ws → HitInside s o (hit o ws)
+unfolding hit
+hit-inside s o [] m = tt
+hit-inside s o (w ∷ ws) m = go (hits o w) refl (hit-inside s o ws (m .1))
   where
-    go :
-        (x : Bool) → (leb (w .start) o && ltb o (w .start + w .size)) ≡ x → HereInside s o (hereAll o Miss ws)
-        → HereInside s o (hereAll o (if x then In w else Miss) ws)
+    go : (x : Bool) → hits o w ≡ x → HitInside s o (hit o ws) → HitInside s o (if x then some w else hit o ws)
     go true e ih =
         let t = both (leb (w .start) o) (ltb o (w .start + w .size)) e in
-        subst (HereInside s o) (sym (here-stays o w ws)) (record { made = m .0; low = leb-true _ _ (t .0); high = ltb-true _ _ (t .1) })
+        record { made = m .0; low = leb-true _ _ (t .0); high = ltb-true _ _ (t .1) }
     go false e ih = ih
 
 -- ---- what is left to undo there
@@ -283,9 +400,9 @@ epilogue-skipped s o w h =
     go Nowhere false = refl
 
 -- in the body or in an epilogue
-here-todo : (s : List ℕ) (o : ℕ) (h : Here) → HereInside s o h → todoHere s o (scan s (codeBytes 0) .list) h ≡ todoOf s (inHere s o h)
-here-todo s o Miss i = refl
-here-todo s o (In w) i = epilogue-skipped s o w i
+hit-todo : (s : List ℕ) (o : ℕ) (h : Option EpilogueSpan) → HitInside s o h → todoHit s o (scan s (codeBytes 0) .list) h ≡ todoOf s (inHit s o h)
+hit-todo s o none i = refl
+hit-todo s o (some w) i = epilogue-skipped s o w i
 
 -- ---- the record and the offset
 module _ (sh : Shape) (o : ℕ) where
@@ -299,19 +416,19 @@ module _ (sh : Shape) (o : ℕ) where
   todo-place :
       (p : ℕ) (c : Codes Code) (ws : List EpilogueSpan) → c .list ≡ scan s (codeBytes 0) .list → AllMade s ws → (o < p → p ≡ total size (scan s (codeBytes 0) .list))
       → todo size executing (record { codes = c; prologue = p; epilogues = map (spanEpilogue s) ws }) o
-      ≡ todoOf s (if ltb o p then skipped s Prologue (codeBytes 0) (p - o) else inHere s o (hereAll o Miss ws))
+      ≡ todoOf s (if ltb o p then skipped s Prologue (codeBytes 0) (p - o) else inHit s o (hit o ws))
   unfolding todo
   todo-place p c ws same made small = go (ltb o p) refl
     where
       go :
           (x : Bool) → ltb o p ≡ x
           → (if x then left size Prologue 0 o (c .list) else inEpilogues size executing (map (spanEpilogue s) ws) o (c .list))
-          ≡ todoOf s (if x then skipped s Prologue (codeBytes 0) (p - o) else inHere s o (hereAll o Miss ws))
+          ≡ todoOf s (if x then skipped s Prologue (codeBytes 0) (p - o) else inHit s o (hit o ws))
       go true e =
           let l : o < p = ltb-true o p e in
           let t : p ≡ total size (scan s (codeBytes 0) .list) = small l in
           rw same (left-skipped s Prologue (codeBytes 0) 0 o (p - o) (omega arith))
-      go false e = rw same (epilogues-here s o (scan s (codeBytes 0) .list) ws ∙ here-todo s o (hereAll o Miss ws) (here-inside s o ws made))
+      go false e = rw same (epilogues-hit s o (scan s (codeBytes 0) .list) ws ∙ hit-todo s o (hit o ws) (hit-inside s o ws made))
 
   -- a prologue that an offset is in is no fragment's
   small-prologue : (f : Bool) (c : Codes Code) → c .list ≡ scan s (codeBytes 0) .list → o < prologueOf f c → prologueOf f c ≡ total size (scan s (codeBytes 0) .list)
@@ -322,36 +439,33 @@ module _ (sh : Shape) (o : ℕ) where
   unfolding view spotOf
   spot-todo = go (scan s (codeBytes 0) .ending)
     where
-      seen : (p : ℕ) (ws : List EpilogueSpan) → Looked
-      seen p ws = All (seenAll (sh .span) o (unseen (sh .span) p) ws)
-
       last :
           (n : ℕ) (ws : List EpilogueSpan) → AllMade s ws → (b : Bool)
           → ((need b BadLayout >> ok (record { codes = first n; prologue = prologueOf (sh .fragment) (first n); epilogues = map (spanEpilogue s) ws })) >>= λ v. todo size executing v o)
           ≡ todoOf s
-          (if b then (if ltb o (prologueOf (sh .fragment) (first n)) then skipped s Prologue (codeBytes 0) (prologueOf (sh .fragment) (first n) - o) else inHere s o (hereAll o Miss ws)) else noSpot BadLayout)
+          (if b then (if ltb o (prologueOf (sh .fragment) (first n)) then skipped s Prologue (codeBytes 0) (prologueOf (sh .fragment) (first n) - o) else inHit s o (hit o ws)) else noSpot BadLayout)
       last n ws made true = todo-place (prologueOf (sh .fragment) (first n)) (first n) ws refl made (small-prologue (sh .fragment) (first n) refl)
       last n ws made false = refl
 
       all :
           (n : ℕ) (y : Res (List EpilogueSpan)) → spans s (sh .span) (sh .scopes) ≡ y
           → (((y >>= λ ws. ok (map (spanEpilogue s) ws)) >>= λ es. need (fits (sh .span) (prologueOf (sh .fragment) (first n)) es) BadLayout >> ok (record { codes = first n; prologue = prologueOf (sh .fragment) (first n); epilogues = es })) >>= λ v. todo size executing v o)
-          ≡ todoOf s (inSeen s (prologueOf (sh .fragment) (first n)) o (either y Bad (λ ws. All (seenAll (sh .span) o (unseen (sh .span) (prologueOf (sh .fragment) (first n))) ws))))
+          ≡ todoOf s (inSeen s (sh .span) (sh .scopes) (prologueOf (sh .fragment) (first n)) o (either y Bad (λ ws. All (seenAll (sh .span) o 0 (unseen (sh .span) (prologueOf (sh .fragment) (first n)) (length (sh .scopes))) ws))))
       all n (refuse r) q = refl
       all n (ok ws) q =
+          let p = prologueOf (sh .fragment) (first n) in
           rw
-          (fits-seen s (sh .span) o (prologueOf (sh .fragment) (first n)) ws, seen-here (sh .span) o (unseen (sh .span) (prologueOf (sh .fragment) (first n))) ws)
-          (last n ws (spans-made s (sh .span) (sh .scopes) ws q) (seenAll (sh .span) o (unseen (sh .span) (prologueOf (sh .fragment) (first n))) ws .fits))
+          (passed-spot s (sh .span) o p (sh .scopes) ws q, fits-seen s (sh .span) o p (length (sh .scopes)) ws)
+          (last n ws (spans-made s (sh .span) (sh .scopes) ws q) (seenAll (sh .span) o 0 (unseen (sh .span) p (length (sh .scopes))) ws .fits))
 
       go :
           (x : Res ℕ)
           → (((x >>= λ n. ok (first n)) >>= λ c. epilogues size codesAt sh (sh .scopes) >>= λ es. need (fits (sh .span) (prologueOf (sh .fragment) c) es) BadLayout >> ok (record { codes = c; prologue = prologueOf (sh .fragment) c; epilogues = es })) >>= λ v. todo size executing v o)
-          ≡ todoOf s
-          (either (x >>= λ n. ok (first n)) noSpot (λ c. inSeen s (prologueOf (sh .fragment) c) o (lookFrom s (sh .span) o (unseen (sh .span) (prologueOf (sh .fragment) c)) (sh .scopes))))
+          ≡ todoOf s (spotBy s (sh .span) (sh .scopes) o (passedBy s (sh .span) (sh .fragment) (sh .scopes) o (x >>= λ n. ok (first n))))
       go (refuse r) = refl
       go (ok n) =
           rw
-          (epilogues-spans sh (sh .scopes), look-spans s (sh .span) o (unseen (sh .span) (prologueOf (sh .fragment) (first n))) (sh .scopes))
+          (epilogues-spans sh (sh .scopes), look-spans s (sh .span) o 0 (unseen (sh .span) (prologueOf (sh .fragment) (first n)) (length (sh .scopes))) (sh .scopes))
           (all n (spans s (sh .span) (sh .scopes)) refl)
 
 -- ---- the list at a spot ends
@@ -374,9 +488,10 @@ always-ended s false i k n h (At j) e = tt
 always-ended s true i k n h Nowhere e = tt
 always-ended s false i k n h Nowhere e = tt
 
-here-ended : (s : List ℕ) (o n : ℕ) → scan s (codeBytes 0) .ending ≡ ok n → (h : Here) → HereInside s o h → Ended s (inHere s o h)
-here-ended s o n e Miss i = (n, e)
-here-ended s o n e (In w) i =
+hit-ended :
+    (s : List ℕ) (o n : ℕ) → scan s (codeBytes 0) .ending ≡ ok n → (h : Option EpilogueSpan) → HitInside s o h → Ended s (inHit s o h)
+hit-ended s o n e none i = (n, e)
+hit-ended s o n e (some w) i =
     always-ended s (executing (w .condition)) (w .index) (o - w .start) (i .made .end) (i .made .ends) (skipAt s (w .index) (o - w .start)) refl
 
 pub spot-ends :
@@ -389,25 +504,23 @@ spot-ends s span f scopes o = go (scan s (codeBytes 0) .ending) refl
 
     place :
         (n p : ℕ) (ws : List EpilogueSpan) → scan s (codeBytes 0) .ending ≡ ok n → AllMade s ws → (b c : Bool)
-        → Ended s (if b then (if c then skipped s Prologue (codeBytes 0) (p - o) else inHere s o (hereAll o Miss ws)) else noSpot BadLayout)
+        → Ended s (if b then (if c then skipped s Prologue (codeBytes 0) (p - o) else inHit s o (hit o ws)) else noSpot BadLayout)
     place n p ws e m true true = skip-ended s Prologue (codeBytes 0) (p - o) n e (skipAt s (codeBytes 0) (p - o)) refl
-    place n p ws e m true false = here-ended s o n e (hereAll o Miss ws) (here-inside s o ws m)
+    place n p ws e m true false = hit-ended s o n e (hit o ws) (hit-inside s o ws m)
     place n p ws e m false c = tt
 
     all :
         (n p : ℕ) (y : Res (List EpilogueSpan)) → spans s span scopes ≡ y → scan s (codeBytes 0) .ending ≡ ok n
-        → Ended s (inSeen s p o (either y Bad (λ ws. All (seenAll span o (unseen span p) ws))))
+        → Ended s (inSeen s span scopes p o (either y Bad (λ ws. All (seenAll span o 0 (unseen span p (length scopes)) ws))))
     all n p (refuse r) q e = tt
     all n p (ok ws) q e =
-        subst
-        (λ h. Ended s (if seenAll span o (unseen span p) ws .fits then (if ltb o p then skipped s Prologue (codeBytes 0) (p - o) else inHere s o h) else noSpot BadLayout))
-        (sym (seen-here span o (unseen span p) ws))
-        (place n p ws e (spans-made s span scopes ws q) (seenAll span o (unseen span p) ws .fits) (ltb o p))
+        subst (Ended s) (sym (passed-spot s span o p scopes ws q))
+        (place n p ws e (spans-made s span scopes ws q) (seenAll span o 0 (unseen span p (length scopes)) ws .fits) (ltb o p))
 
     go :
         (x : Res ℕ) → scan s (codeBytes 0) .ending ≡ x
-        → Ended s (either (x >>= λ n. ok (whole n)) noSpot (λ c. inSeen s (prologueOf f c) o (lookFrom s span o (unseen span (prologueOf f c)) scopes)))
+        → Ended s (spotBy s span scopes o (passedBy s span f scopes o (x >>= λ n. ok (whole n))))
     go (refuse r) e = tt
     go (ok n) e =
-        subst (λ l. Ended s (inSeen s (prologueOf f (whole n)) o l)) (sym (look-spans s span o (unseen span (prologueOf f (whole n))) scopes))
+        subst (λ l. Ended s (inSeen s span scopes (prologueOf f (whole n)) o l)) (sym (look-spans s span o 0 (unseen span (prologueOf f (whole n)) (length scopes)) scopes))
         (all n (prologueOf f (whole n)) (spans s span scopes) refl e)

@@ -5,13 +5,7 @@ use Rattle.lent.specs.Lent.{Lent}
 use Rattle.unwinding.specs.View.{View, view}
 use Rattle.codes.specs.Code.{size, codesAt}
 use Rattle.codes.specs.declared.Code.{Code}
-use Rattle.record.specs.Record.{fullShape, packedShape, shapeAt}
-
-abbrev pub fullView : Lent → (at : ℕ) → Res (View Code)
-fullView x a = fullShape x a >>= view size codesAt
-
-abbrev pub packedView : (word : ℕ) → Res (View Code)
-packedView w = packedShape w >>= view size codesAt
+use Rattle.record.specs.Record.{shapeAt}
 
 abbrev pub viewAt : Lent → (word : ℕ) → Res (View Code)
 viewAt x w = shapeAt x w >>= view size codesAt

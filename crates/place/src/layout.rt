@@ -1,8 +1,8 @@
-// The epilogues of a record in one pass: what refusals 6 and 7 ask of them, and the one that an offset falls into.
-use super::EpilogueRead;
+// The epilogues of a record in one pass: what refusals 6 and 7 ask of them, and the number of the one that an offset falls into.
 use super::EpilogueSpan;
-use super::Here;
 use super::Looked;
+use super::Measured;
+use super::Passed;
 use super::Seen;
 use reader::Scanned;
 use record::Plan;
@@ -14,18 +14,18 @@ use words::Refusal;
 use words::Verdict;
 ghost use mathlib.Core.Path.{_≡_};
 ghost use mathlib.Core.Bool.{_&&_, _||_};
-ghost use Prim.Native.Nat.{ℕ, _+_, _-_, _^_, _≤_, _<_};
-ghost use mathlib.Core.List.{List};
+ghost use Prim.Native.Nat.{_+_, _^_, _≤_, _<_};
+ghost use lib.Dec.{leb, ltb};
 ghost use lib.ListN.{length};
 ghost use Rattle.words.specs.Units.{codeBytes, halfwords, halfwordBytes};
 ghost use Rattle.words.specs.Answer.{verdict, if_then_else_};
 ghost use Rattle.unwinding.specs.View.{view};
 ghost use Rattle.unwinding.specs.as_coded.Lined.{next, reachOf};
 ghost use Rattle.unwinding.specs.Shape.{startOf};
-ghost use Rattle.codes.specs.Code.{size, codesAt, scan as scanOf};
-ghost use Rattle.reader.specs.as_coded.Reading.{scanned};
+ghost use Rattle.codes.specs.Code.{size, codesAt};
+ghost use Rattle.codes.specs.as_coded.Rows.{rowNumbers};
 ghost use Rattle.record.specs.as_coded.Plan.{scopesFrom, shapeBy};
-ghost use Rattle.place.specs.as_coded.Look.{epilogueRead, epilogueEnd, hereOf, see as seeOf, lookFrom, judged as judgedOf, unseen as unseenOf};
+ghost use Rattle.place.specs.as_coded.Look.{Ready, measured, bytesIn, spanBy, see as seeOf, lookFrom, passed, judged as judgedOf, unseen as unseenOf};
 
 // Where an epilogue of this size starts in a function of this length (RULES 5.4).
 fn start_of(start: Start, span: u64, size: u64) -> u64
@@ -38,17 +38,6 @@ fn start_of(start: Start, span: u64, size: u64) -> u64
     }
 }
 
-// What a pass from an index finds. The last pass says it where that was from the same index, as epilogues often share their codes.
-fn rescan(codes: &[u8], index: CodeBytes, at: CodeBytes, last: Scanned) -> Scanned
-    requires { ⌜ last ≡ scanned (scanOf (now codes) at) ⌝ }
-    ensures { λ r. ⌜ r ≡ scanned (scanOf (now (codes .entry)) index) ⌝ }
-{
-    if index.0 == at.0 {
-        return last;
-    }
-    reader::scan(codes, index)
-}
-
 // The bytes of so many halfwords of instructions, as a pass counts them.
 fn bytes_of(count: u64) -> u64
     requires { ⌜ count < 4096 ⌝ }
@@ -57,24 +46,46 @@ fn bytes_of(count: u64) -> u64
     words::halfword_bytes(Halfwords(count as u32))
 }
 
-// The epilogue of a scope, by the pass over its codes.
-fn epilogue_span(e: Scope, found: Scanned, span: u64) -> EpilogueRead
-    requires { ⌜ ((s : List ℕ) × (length s ≤ 1020) × (found ≡ scanned (scanOf s (e .index)))) × (span < 2 ^ 32) ⌝ }
-    ensures { λ r. ⌜ ((s : List ℕ) → found ≡ scanned (scanOf s (e .index)) → r ≡ epilogueRead span e (codesAt s (e .index))) × (epilogueEnd r < 2 ^ 33) ⌝ }
+// The size of the code list at an index.
+pub fn measure(t: &[u8; 256], codes: &[u8], index: CodeBytes) -> Measured
+    requires { ⌜ (now t ≡ rowNumbers) × (length (now codes) ≤ 1020) ⌝ }
+    ensures { λ r. ⌜ (r ≡ measured (codesAt (now (codes .entry)) index)) × (bytesIn r < 8192) ⌝ }
 {
-    let index = e.index;
+    match reader::scan(t, codes, index) {
+        Scanned::Ends(list, end) => Measured::Bytes(bytes_of(list + end)),
+        Scanned::Refused(r) => Measured::Unread(r),
+    }
+}
+
+// The same where the size of the list at another index is known: epilogues often share their codes.
+fn measure_after(
+    t: &[u8; 256],
+    codes: &[u8],
+    index: CodeBytes,
+    at: CodeBytes,
+    size: u64,
+) -> Measured
+    requires { ⌜ (now t ≡ rowNumbers) × (length (now codes) ≤ 1020) × (Measured.Bytes size ≡ measured (codesAt (now codes) at)) × (size < 8192) ⌝ }
+    ensures { λ r. ⌜ (r ≡ measured (codesAt (now (codes .entry)) index)) × (bytesIn r < 8192) ⌝ }
+{
+    if index.0 == at.0 {
+        return Measured::Bytes(size);
+    }
+    measure(t, codes, index)
+}
+
+// The epilogue of a scope whose codes have this size.
+pub fn epilogue_span(e: Scope, span: u64, size: u64) -> EpilogueSpan
+    requires { ⌜ (span < 2 ^ 32) × (size < 8192) ⌝ }
+    ensures { λ r. ⌜ (r ≡ spanBy span e size) × (r .start + r .size < 2 ^ 33) ⌝ }
+{
     let start = e.start;
-    match found {
-        Scanned::Ends(list, end) => {
-            let size = bytes_of(list + end);
-            EpilogueRead::Made(EpilogueSpan {
-                start: start_of(start, span, size),
-                size: size,
-                condition: e.condition,
-                index: index,
-            })
-        }
-        Scanned::Refused(r) => EpilogueRead::Unread(r),
+    let index = e.index;
+    EpilogueSpan {
+        start: start_of(start, span, size),
+        size: size,
+        condition: e.condition,
+        index: index,
     }
 }
 
@@ -93,36 +104,25 @@ fn reach_of(reach: u64, start: u64, end: u64) -> u64
     if end <= start { reach } else { end }
 }
 
-// The first epilogue that the offset falls into.
-fn here_of(o: u64, here: Here, w: EpilogueSpan, end: u64) -> Here
-    requires { ⌜ end ≡ w .start + w .size ⌝ }
-    ensures { λ r. ⌜ r ≡ hereOf o here w ⌝ }
+// The number of the epilogue that the offset falls into, with one more to see: it falls into one at most where 7 is not given.
+fn at_of(o: u64, at: usize, k: usize, start: u64, end: u64) -> usize
+    ensures { λ r. ⌜ r ≡ (if leb start o && ltb o end then k else at) ⌝ }
 {
-    match here {
-        Here::In(_) => here,
-        Here::Miss => {
-            if w.start <= o && o < end {
-                Here::In(w)
-            } else {
-                Here::Miss
-            }
-        }
-    }
+    if start <= o && o < end { k } else { at }
 }
 
-// What has been seen with one epilogue more.
-fn see(span: u64, o: u64, s: Seen, w: EpilogueSpan) -> Seen
+// What has been seen with one epilogue more, of this number.
+fn see(span: u64, o: u64, k: usize, s: Seen, w: EpilogueSpan) -> Seen
     requires { ⌜ w .start + w .size < 2 ^ 33 ⌝ }
-    ensures { λ r. ⌜ r ≡ seeOf span o s w ⌝ }
+    ensures { λ r. ⌜ r ≡ seeOf span o k s w ⌝ }
 {
     let start = w.start;
     let end = start + w.size;
-    let here = s.here;
     Seen {
         floor: start + 1,
         reach: reach_of(s.reach, start, end),
         fits: s.fits && in_line(span, s.floor, s.reach, start, end),
-        here: here_of(o, here, w, end),
+        at: at_of(o, s.at, k, start, end),
     }
 }
 
@@ -140,50 +140,58 @@ fn count_of(plan: Plan) -> usize
     plan.count
 }
 
-// The epilogues of a record in turn, given what the pass from index 0 found. Codes are scanned anew only where the index changes.
-pub fn look(codes: &[u8], plan: Plan, xdata: &[u8], o: u64, seen: Seen, first: Scanned) -> Looked
-    requires { ⌜ (length (now codes) ≤ 1020) × (first ≡ scanned (scanOf (now codes) (codeBytes 0))) ⌝ }
-    ensures { λ r. ⌜ r ≡ lookFrom (now (codes .entry)) (plan .span) o seen (scopesFrom (plan .scopes) (now (xdata .entry)) 0 (plan .count)) ⌝ }
+// The epilogues of a record in turn, given the size of the code list at index 0. Codes are scanned anew only where the index changes.
+fn look(
+    t: &[u8; 256],
+    codes: &[u8],
+    plan: Plan,
+    xdata: &[u8],
+    o: u64,
+    seen: Seen,
+    first: u64,
+) -> Looked
+    requires { ⌜ Ready (now t) (now codes) plan (now xdata) × (Measured.Bytes first ≡ measured (codesAt (now codes) (codeBytes 0))) × (first < 8192) ⌝ }
+    ensures { λ r. ⌜ r ≡ lookFrom (now (codes .entry)) (plan .span) o 0 seen (scopesFrom (plan .scopes) (now (xdata .entry)) 0 (plan .count)) ⌝ }
 {
     let span = span_of(plan);
     let n = count_of(plan);
     let mut s = seen;
-    let mut last = first;
+    let mut size = first;
     let mut at = CodeBytes(0);
     let mut k: usize = 0;
     while k < n {
         let e = record::scope(plan, xdata, k);
         let index = e.index;
-        last = rescan(codes, index, at, last);
-        at = index;
-        let read = epilogue_span(e, last, span);
+        let read = measure_after(t, codes, index, at, size);
         match read {
-            EpilogueRead::Made(w) => {
-                s = see(span, o, s, w);
+            Measured::Bytes(bytes) => {
+                size = bytes;
             }
-            EpilogueRead::Unread(r) => {
+            Measured::Unread(r) => {
                 return Looked::Bad(r);
             }
         }
+        at = index;
+        s = see(span, o, k, s, epilogue_span(e, span, size));
         k += 1;
     }
     Looked::All(s)
 }
 
-// Before any epilogue: the prologue is what must not be shared.
-pub fn unseen(span: u64, p: u64) -> Seen
-    ensures { λ r. ⌜ r ≡ unseenOf span p ⌝ }
+// Before any epilogue, of n: the prologue is what must not be shared.
+fn unseen(span: u64, p: u64, n: usize) -> Seen
+    ensures { λ r. ⌜ r ≡ unseenOf span p n ⌝ }
 {
     Seen {
         floor: 0,
         reach: p,
         fits: p <= span,
-        here: Here::Miss,
+        at: n,
     }
 }
 
 // The bytes of a prologue whose instructions take so many halfwords; a fragment has none.
-pub fn prologue_of(fragment: bool, list: u64) -> u64
+fn prologue_of(fragment: bool, list: u64) -> u64
     requires { ⌜ list < 4096 ⌝ }
     ensures { λ r. ⌜ r ≡ (if fragment then 0 else halfwordBytes (halfwords list)) ⌝ }
 {
@@ -206,18 +214,34 @@ fn judged(looked: Looked) -> Verdict
     }
 }
 
+// The prologue and the epilogues of a record. The code list at index 0 is scanned once for both.
+pub fn pass(t: &[u8; 256], codes: &[u8], plan: Plan, xdata: &[u8], o: u64) -> Passed
+    requires { ⌜ Ready (now t) (now codes) plan (now xdata) ⌝ }
+    ensures { λ r. ⌜ r ≡ passed (now (codes .entry)) (plan .span) (plan .fragment) (scopesFrom (plan .scopes) (now (xdata .entry)) 0 (plan .count)) o ⌝ }
+{
+    match reader::scan(t, codes, CodeBytes(0)) {
+        Scanned::Ends(list, end) => {
+            let p = prologue_of(plan.fragment, list);
+            let seen = unseen(span_of(plan), p, plan.count);
+            let looked = look(t, codes, plan, xdata, o, seen, bytes_of(list + end));
+            Passed {
+                prologue: p,
+                looked,
+            }
+        }
+        Scanned::Refused(r) => Passed {
+            prologue: 0,
+            looked: Looked::Bad(r),
+        },
+    }
+}
+
 // 6 and 7 for a record's plan and code bytes. They are the same for each offset of the pass.
-pub fn judge(codes: &[u8], plan: Plan, xdata: &[u8]) -> Verdict
-    requires { ⌜ length (now codes) ≤ 1020 ⌝ }
+pub fn judge(t: &[u8; 256], codes: &[u8], plan: Plan, xdata: &[u8]) -> Verdict
+    requires { ⌜ Ready (now t) (now codes) plan (now xdata) ⌝ }
     ensures { λ r. ⌜ r ≡ verdict (view size codesAt (shapeBy plan (now (codes .entry)) (now (xdata .entry)))) ⌝ }
 {
-    let first = reader::scan(codes, CodeBytes(0));
-    match first {
-        Scanned::Ends(list, _) => {
-            let p = prologue_of(plan.fragment, list);
-            let seen = unseen(span_of(plan), p);
-            judged(look(codes, plan, xdata, 0, seen, first))
-        }
-        Scanned::Refused(r) => Verdict::Refused(r),
-    }
+    let q = pass(t, codes, plan, xdata, 0);
+    let looked = q.looked;
+    judged(looked)
 }

@@ -2,26 +2,26 @@
 // offset, 9 and 10 with one. It knows no registers. The code bytes of a record are at most 255 words.
 mod layout; // the epilogues of a record in one pass
 
-use reader::Scanned;
 use reader::Skipped;
 use record::Part;
 use record::Plan;
+use unwinding::Scope;
 use words::CodeBytes;
 use words::Place;
 use words::Refusal;
 use words::Verdict;
 ghost use mathlib.Core.Path.{_≡_};
-ghost use mathlib.Core.Bool.{_&&_, _||_};
-ghost use Prim.Native.Nat.{ℕ, _+_, _-_, _^_, _≤_, _<_};
+ghost use Prim.Native.Nat.{_-_, _^_, _≤_, _<_};
 ghost use lib.ListN.{length};
 ghost use Rattle.words.specs.Units.{codeBytes};
 ghost use Rattle.reader.specs.as_coded.Skip.{skipAt};
-ghost use Rattle.record.specs.as_coded.Plan.{scopesFrom, fullPlan, fullAnswer, packedPlan, packedAnswer};
-ghost use Rattle.place.specs.as_coded.Look.{bySkip, inHere, inSeen, spotOf, noSpot as noSpotOf};
+ghost use Rattle.record.specs.as_coded.Plan.{scopesFrom};
+ghost use Rattle.place.specs.as_coded.Look.{Ready, bySkip, inEpilogue, inScope, inHere, inSeen, spotOf, noSpot as noSpotOf};
 ghost use Rattle.lent.specs.Lent.{lent};
 ghost use Rattle.words.specs.Answer.{verdict};
-ghost use Rattle.place.specs.Judged.{fullView, packedView, viewAt};
-ghost use Rattle.place.specs.as_coded.Placed.{refusedOf, inPlan, fullPlaced, packedPlaced};
+ghost use Rattle.place.specs.Judged.{viewAt};
+ghost use Rattle.codes.specs.as_coded.Rows.{rowNumbers};
+ghost use Rattle.place.specs.as_coded.Placed.{refusedOf, inPlan, anyPlaced};
 
 // An epilogue as its codes make it: it takes the bytes from start up to start + size.
 pub struct EpilogueSpan {
@@ -31,31 +31,31 @@ pub struct EpilogueSpan {
     pub index: CodeBytes,
 }
 
-// The epilogue of a scope, or 6.
-pub enum EpilogueRead {
-    Made(EpilogueSpan),
+// The bytes of the instructions of a code list, its end code's with them, or 6.
+pub enum Measured {
+    Bytes(u64),
     Unread(Refusal),
 }
 
-// The epilogue that an offset falls into, if any.
-pub enum Here {
-    Miss,
-    In(EpilogueSpan),
-}
-
 // Of the epilogues seen so far: below which offset no later one may start, where the last that is not empty ends, whether 7 is not given,
-// and the one that the offset falls into.
+// and the number of the one that the offset falls into, which is that of none where there is none.
 pub struct Seen {
     pub floor: u64,
     pub reach: u64,
     pub fits: bool,
-    pub here: Here,
+    pub at: usize,
 }
 
 // What a pass over the epilogues came to.
 pub enum Looked {
     All(Seen),
     Bad(Refusal),
+}
+
+// The bytes of a record's prologue, and what a pass over its epilogues came to.
+pub struct Passed {
+    pub prologue: u64,
+    pub looked: Looked,
 }
 
 // A place, and the index of the first code that runs there.
@@ -75,15 +75,11 @@ pub struct Placed {
     pub handler: u32,
 }
 
-// The same of a full record, with the part of the .xdata that its code bytes are.
-pub struct FullPlaced {
+// The same with the record's code bytes: sixteen that were written, or a part of the .xdata.
+pub struct AnyPlaced {
     pub at: Placed,
+    pub written: bool,
     pub codes: Part,
-}
-
-// And of a packed one, with its code bytes.
-pub struct PackedPlaced {
-    pub at: Placed,
     pub bytes: [u8; 16],
 }
 
@@ -105,10 +101,11 @@ fn past(o: u64, from: u64) -> u64
 }
 
 // In the prologue: skips the codes whose instructions have still to run (RULES 5.8).
-fn in_prologue(codes: &[u8], k: u64) -> Spot
+fn in_prologue(t: &[u8; 256], codes: &[u8], k: u64) -> Spot
+    requires { ⌜ now t ≡ rowNumbers ⌝ }
     ensures { λ r. ⌜ r ≡ bySkip Place.Prologue (skipAt (now (codes .entry)) (codeBytes 0) k) ⌝ }
 {
-    match reader::skip(codes, CodeBytes(0), k) {
+    match reader::skip(t, codes, CodeBytes(0), k) {
         Skipped::At(index) => Spot {
             verdict: Verdict::Given,
             place: Place::Prologue,
@@ -119,10 +116,11 @@ fn in_prologue(codes: &[u8], k: u64) -> Spot
 }
 
 // In an epilogue: skips the codes whose instructions have run (RULES 5.9); 9 before 10.
-fn in_epilogue(codes: &[u8], o: u64, w: EpilogueSpan) -> Spot
-    ensures { λ r. ⌜ r ≡ inHere (now (codes .entry)) o (Here.In w) ⌝ }
+fn in_epilogue(t: &[u8; 256], codes: &[u8], o: u64, w: EpilogueSpan) -> Spot
+    requires { ⌜ now t ≡ rowNumbers ⌝ }
+    ensures { λ r. ⌜ r ≡ inEpilogue (now (codes .entry)) o w ⌝ }
 {
-    match reader::skip(codes, w.index, past(o, w.start)) {
+    match reader::skip(t, codes, w.index, past(o, w.start)) {
         Skipped::At(index) => {
             if w.condition == 14 {
                 Spot {
@@ -138,33 +136,54 @@ fn in_epilogue(codes: &[u8], o: u64, w: EpilogueSpan) -> Spot
     }
 }
 
-// In the body or in an epilogue.
-fn in_here(codes: &[u8], o: u64, here: Here) -> Spot
-    ensures { λ r. ⌜ r ≡ inHere (now (codes .entry)) o here ⌝ }
+// In the epilogue of a scope, whose codes are read again: the pass over the epilogues keeps only its number.
+fn in_scope(t: &[u8; 256], codes: &[u8], span: u64, o: u64, e: Scope) -> Spot
+    requires { ⌜ (now t ≡ rowNumbers) × (length (now codes) ≤ 1020) × (span < 2 ^ 32) ⌝ }
+    ensures { λ r. ⌜ r ≡ inScope (now (codes .entry)) span o e ⌝ }
 {
-    match here {
-        Here::In(w) => in_epilogue(codes, o, w),
-        Here::Miss => Spot {
-            verdict: Verdict::Given,
-            place: Place::Body,
-            index: CodeBytes(0),
-        },
+    match layout::measure(t, codes, e.index) {
+        Measured::Bytes(size) => in_epilogue(t, codes, o, layout::epilogue_span(e, span, size)),
+        Measured::Unread(r) => no_spot(r),
+    }
+}
+
+// In the epilogue of a number, or, where none has it, in the body.
+fn in_here(t: &[u8; 256], codes: &[u8], plan: Plan, xdata: &[u8], o: u64, at: usize) -> Spot
+    requires { ⌜ Ready (now t) (now codes) plan (now xdata) ⌝ }
+    ensures { λ r. ⌜ r ≡ inHere (now (codes .entry)) (plan .span) (scopesFrom (plan .scopes) (now (xdata .entry)) 0 (plan .count)) o at ⌝ }
+{
+    if at < plan.count {
+        let e = record::scope(plan, xdata, at);
+        return in_scope(t, codes, layout::span_of(plan), o, e);
+    }
+    Spot {
+        verdict: Verdict::Given,
+        place: Place::Body,
+        index: CodeBytes(0),
     }
 }
 
 // 7, and then the place (RULES 5.6).
-fn in_seen(codes: &[u8], p: u64, o: u64, looked: Looked) -> Spot
-    ensures { λ r. ⌜ r ≡ inSeen (now (codes .entry)) p o looked ⌝ }
+fn in_seen(
+    t: &[u8; 256],
+    codes: &[u8],
+    plan: Plan,
+    xdata: &[u8],
+    p: u64,
+    o: u64,
+    looked: Looked,
+) -> Spot
+    requires { ⌜ Ready (now t) (now codes) plan (now xdata) ⌝ }
+    ensures { λ r. ⌜ r ≡ inSeen (now (codes .entry)) (plan .span) (scopesFrom (plan .scopes) (now (xdata .entry)) 0 (plan .count)) p o looked ⌝ }
 {
     match looked {
         Looked::Bad(r) => no_spot(r),
         Looked::All(seen) => {
-            let here = seen.here;
             if seen.fits {
                 if o < p {
-                    return in_prologue(codes, p - o);
+                    return in_prologue(t, codes, p - o);
                 }
-                return in_here(codes, o, here);
+                return in_here(t, codes, plan, xdata, o, seen.at);
             }
             no_spot(Refusal::BadLayout)
         }
@@ -172,24 +191,13 @@ fn in_seen(codes: &[u8], p: u64, o: u64, looked: Looked) -> Spot
 }
 
 // The place of an offset in a record, and the index of the first code that runs there.
-fn spot_in(codes: &[u8], plan: Plan, xdata: &[u8], o: u64) -> Spot
-    requires { ⌜ length (now codes) ≤ 1020 ⌝ }
+fn spot_in(t: &[u8; 256], codes: &[u8], plan: Plan, xdata: &[u8], o: u64) -> Spot
+    requires { ⌜ Ready (now t) (now codes) plan (now xdata) ⌝ }
     ensures { λ r. ⌜ r ≡ spotOf (now (codes .entry)) (plan .span) (plan .fragment) (scopesFrom (plan .scopes) (now (xdata .entry)) 0 (plan .count)) o ⌝ }
 {
-    let first = reader::scan(codes, CodeBytes(0));
-    match first {
-        Scanned::Ends(list, _) => {
-            let p = layout::prologue_of(plan.fragment, list);
-            let seen = layout::unseen(layout::span_of(plan), p);
-            in_seen(
-                codes,
-                p,
-                o,
-                layout::look(codes, plan, xdata, o, seen, first),
-            )
-        }
-        Scanned::Refused(r) => no_spot(r),
-    }
+    let q = layout::pass(t, codes, plan, xdata, o);
+    let looked = q.looked;
+    in_seen(t, codes, plan, xdata, q.prologue, o, looked)
 }
 
 // A refused record.
@@ -205,13 +213,13 @@ fn refused(why: Refusal) -> Placed
     }
 }
 
-// By a record's plan and code bytes, at an offset that its function covers or not.
-fn in_plan(codes: &[u8], plan: Plan, xdata: &[u8], o: u64) -> Placed
-    requires { ⌜ length (now codes) ≤ 1020 ⌝ }
+// By a record's plan, whose scope words are in the .xdata, and code bytes, at an offset that its function covers or not.
+fn in_plan(t: &[u8; 256], codes: &[u8], plan: Plan, xdata: &[u8], o: u64) -> Placed
+    requires { ⌜ Ready (now t) (now codes) plan (now xdata) ⌝ }
     ensures { λ r. ⌜ r ≡ inPlan plan (now (codes .entry)) (now (xdata .entry)) o ⌝ }
 {
     if o < plan.span as u64 {
-        let s = spot_in(codes, plan, xdata, o);
+        let s = spot_in(t, codes, plan, xdata, o);
         let verdict = s.verdict;
         let place = s.place;
         let index = s.index;
@@ -232,78 +240,38 @@ fn in_plan(codes: &[u8], plan: Plan, xdata: &[u8], o: u64) -> Placed
     }
 }
 
-// Where an offset stands in the full record at an RVA.
-pub fn full(rva: u32, xdata: &[u8], rec: u32, o: u64) -> FullPlaced
-    ensures { λ r. ⌜ r ≡ fullPlaced (now (xdata .entry)) (fullAnswer (fullPlan (lent rva (now (xdata .entry))) rec)) o ⌝ }
+// Where an offset stands in the record that word 1 of a .pdata record names. The table of codes is lent.
+pub fn at(t: &[u8; 256], rva: u32, xdata: &[u8], word: u32, o: u64) -> AnyPlaced
+    requires { ⌜ now t ≡ rowNumbers ⌝ }
+    ensures { λ r. ⌜ r ≡ anyPlaced (lent rva (now (xdata .entry))) word o ⌝ }
 {
-    let f = record::full(rva, xdata, rec);
-    let codes = f.codes;
-    let verdict = f.verdict;
-    match verdict {
-        Verdict::Refused(why) => {
-            let at = refused(why);
-            FullPlaced { at, codes }
-        }
-        Verdict::Given => {
-            let start = codes.start;
-            let end = start + codes.len;
-            let plan = f.plan;
-            let at = in_plan(&xdata[start..end], plan, xdata, o);
-            FullPlaced { at, codes }
-        }
-    }
-}
-
-// Where an offset stands in the record of a packed word.
-pub fn packed(word: u32, o: u64) -> PackedPlaced
-    ensures { λ r. ⌜ r ≡ packedPlaced (packedAnswer (packedPlan word)) o ⌝ }
-{
-    let f = record::packed(word);
+    let f = record::read(rva, xdata, word);
     let bytes = f.bytes;
+    let codes = f.codes;
+    let written = f.written;
     let verdict = f.verdict;
     match verdict {
         Verdict::Refused(why) => {
             let at = refused(why);
-            PackedPlaced { at, bytes }
+            AnyPlaced {
+                at,
+                written,
+                codes,
+                bytes,
+            }
         }
         Verdict::Given => {
             let plan = f.plan;
-            let at = in_plan(&bytes, plan, &bytes, o);
-            PackedPlaced { at, bytes }
-        }
-    }
-}
-
-// 4 to 7 for the full record at an RVA.
-fn judge_full(rva: u32, xdata: &[u8], at: u32) -> Verdict
-    ensures { λ r. ⌜ r ≡ verdict (fullView (lent rva (now (xdata .entry))) at) ⌝ }
-{
-    let f = record::full(rva, xdata, at);
-    let verdict = f.verdict;
-    match verdict {
-        Verdict::Refused(_) => verdict,
-        Verdict::Given => {
-            let codes = f.codes;
             let start = codes.start;
             let end = start + codes.len;
-            let plan = f.plan;
-            layout::judge(&xdata[start..end], plan, xdata)
-        }
-    }
-}
-
-// 4, 6 and 7 for a packed word.
-fn judge_packed(word: u32) -> Verdict
-    ensures { λ r. ⌜ r ≡ verdict (packedView word) ⌝ }
-{
-    let f = record::packed(word);
-    let verdict = f.verdict;
-    match verdict {
-        Verdict::Refused(_) => verdict,
-        Verdict::Given => {
-            let bytes = f.bytes;
-            let plan = f.plan;
-            layout::judge(&bytes, plan, &bytes)
+            let list = record::pick(written, &bytes, xdata, start, end);
+            let at = in_plan(t, list, plan, xdata, o);
+            AnyPlaced {
+                at,
+                written,
+                codes,
+                bytes,
+            }
         }
     }
 }
@@ -312,8 +280,19 @@ fn judge_packed(word: u32) -> Verdict
 pub fn judge(rva: u32, xdata: &[u8], word: u32) -> Verdict
     ensures { λ r. ⌜ r ≡ verdict (viewAt (lent rva (now (xdata .entry))) word) ⌝ }
 {
-    if words::bits(word, 0, 2) == 0 {
-        return judge_full(rva, xdata, word);
+    let f = record::read(rva, xdata, word);
+    let verdict = f.verdict;
+    match verdict {
+        Verdict::Refused(_) => verdict,
+        Verdict::Given => {
+            let t = codes::row_table();
+            let bytes = f.bytes;
+            let codes = f.codes;
+            let plan = f.plan;
+            let start = codes.start;
+            let end = start + codes.len;
+            let list = record::pick(f.written, &bytes, xdata, start, end);
+            layout::judge(&t, list, plan, xdata)
+        }
     }
-    judge_packed(word)
 }

@@ -45,16 +45,19 @@ fn put(bytes: &[u8]) -> bool {
     false
 }
 
-// Writes the text of a report.
-fn answer(text: Text, file: &[u8]) -> bool {
-    let mut out = [0u8; 8192];
-    let n = make(text, file, &mut out);
+// Writes the text of a report. The buffer is lent, so that it is not cleared for each.
+fn answer(text: Text, file: &[u8], out: &mut [u8]) -> bool
+    requires { ⌜ 8192 ≤ length (now out) ⌝ }
+{
+    let n = make(text, file, out);
     put(&out[..n])
 }
 
 // The same with an empty line after it.
-fn answer_line(text: Text, file: &[u8]) -> bool {
-    if answer(text, file) {
+fn answer_line(text: Text, file: &[u8], out: &mut [u8]) -> bool
+    requires { ⌜ 8192 ≤ length (now out) ⌝ }
+{
+    if answer(text, file, out) {
         put(b"\n")
     } else {
         false
@@ -62,13 +65,15 @@ fn answer_line(text: Text, file: &[u8]) -> bool {
 }
 
 // Answers the next report, and says whether to go on. One that did not come whole is answered as a report of no bytes, which is unfit.
-fn answer_next(text: Text, file: &mut [u8]) -> bool {
+fn answer_next(text: Text, file: &mut [u8], out: &mut [u8]) -> bool
+    requires { ⌜ 8192 ≤ length (now out) ⌝ }
+{
     match streams::next(STDIN_FILENO, file) {
-        Item::Report(n) => answer_line(text, &file[..n]),
-        Item::TooLong => answer_line(text, b""),
+        Item::Report(n) => answer_line(text, &file[..n], out),
+        Item::TooLong => answer_line(text, b"", out),
         Item::Cut(failed) => {
             tell(failed);
-            answer_line(text, b"");
+            answer_line(text, b"", out);
             false
         }
         Item::End(failed) => {
@@ -80,23 +85,25 @@ fn answer_next(text: Text, file: &mut [u8]) -> bool {
 
 // One report, up to the input's end. One byte more than the largest is asked for, so that a longer one is seen to be longer.
 pub fn answer_one(text: Text) {
+    let mut out = [0u8; 8192];
     let mut file = [0u8; 65537];
     let filled = streams::fill(STDIN_FILENO, &mut file);
     let count = filled.count;
     let failed = filled.failed;
     tell(failed);
     if failed {
-        answer(text, b"");
+        answer(text, b"", &mut out);
     } else {
-        answer(text, &file[..count]);
+        answer(text, &file[..count], &mut out);
     }
 }
 
 // Reports one after the other. A proved loop has to end, and nothing says that the input does: it counts turns that no run uses up.
 pub fn answer_many(text: Text) {
+    let mut out = [0u8; 8192];
     let mut file = [0u8; 65536];
     let mut turns = u64::MAX;
-    while 0 < turns && answer_next(text, &mut file) {
+    while 0 < turns && answer_next(text, &mut file, &mut out) {
         turns -= 1;
     }
 }

@@ -16,6 +16,9 @@ use Rattle.unwinding.specs.Taking.{Scan}
 use Rattle.codes.specs.Code.{takeAt, seen, scan, halves}
 use Rattle.reader.specs.as_coded.Reading.{past, scanned, turn, more}
 use Rattle.codes.specs.declared.Code.{Code}
+use Rattle.codes.specs.as_coded.Sizing.{sized}
+use Rattle.codes.specs.declared.Sized.{Sized}
+use Rattle.codes.specs.declared.Sized.the-variants as S
 use Rattle.codes.specs.declared.Taken.{Taken}
 use Rattle.codes.specs.declared.Taken.the-variants.{One, Last, Bad}
 use Rattle.reader.specs.declared.Scanned.{Scanned}
@@ -45,10 +48,10 @@ scanned-one c x = go (x .ending)
     go (refuse r) = refl
 
 -- a turn that goes on has added a code
-pub adds : (k : ℕ) (t : Taken) → turn (Ends k 0) t .on ≡ true → turn (Ends k 0) t .found ≡ Ends (k + more t) 0
-adds k (One c next) o = refl
-adds k (Last n) o = absurd (false≢true o)
-adds k (Bad j) o = absurd (false≢true o)
+pub adds : (k : ℕ) (t : Sized) → turn t (Ends k 0) .on ≡ true → turn t (Ends k 0) .found ≡ Ends (k + more t) 0
+adds k (S.One z next) o = refl
+adds k (S.Last n) o = absurd (false≢true o)
+adds k (S.Bad j) o = absurd (false≢true o)
 
 -- what holds wherever a turn begins, of a pass over m from an index on
 pub record Here (m : List ℕ) (i : CodeBytes) : Type 0 where
@@ -63,20 +66,23 @@ pub starts : (m : List ℕ) (i : CodeBytes) → plus 0 (scanned (scan m i)) ≡ 
 starts m i = plus-none (scanned (scan m i))
 
 module _ {m : List ℕ} {i : CodeBytes} (h : Here m i) where
-  abbrev there : Taken
-  there = takeAt m (h .at)
+  abbrev taken : Taken
+  taken = takeAt m (h .at)
+
+  abbrev there : Sized
+  there = sized taken
 
   -- what a code that is taken changes
-  record Onward (t : Taken) : Type 0 where
+  record Onward (t : Sized) : Type 0 where
     far : h .at .0 < past t (h .at) .0
     near : past t (h .at) .0 ≤ length m
     kept : plus (h .sum + more t) (scanned (scan m (past t (h .at)))) ≡ plus (h .sum) (scanned (scan m (h .at)))
     light : more t ≤ 2
 
-  onward : turn (Ends (h .sum) 0) there .on ≡ true → Onward there
-  onward o = go there refl o
+  onward : turn there (Ends (h .sum) 0) .on ≡ true → Onward there
+  onward o = go taken refl o
     where
-      go : (t : Taken) → there ≡ t → turn (Ends (h .sum) 0) t .on ≡ true → Onward t
+      go : (t : Taken) → taken ≡ t → turn (sized t) (Ends (h .sum) 0) .on ≡ true → Onward (sized t)
       go (One c next) e o =
           let n = take-next takes m (h .at .0) (ap seen e) in
           let on : scanned (scan m (h .at)) ≡ plus (halves c) (scanned (scan m next)) = ap scanned (scan-by m (h .at) e) ∙ scanned-one c (scan m next) in
@@ -90,10 +96,12 @@ module _ {m : List ℕ} {i : CodeBytes} (h : Here m i) where
       go (Bad j) e o = absurd (false≢true o)
 
   -- where a turn does not go on, it has found what the pass finds
-  pub ended : turn (Ends (h .sum) 0) there .on ≡ false → turn (Ends (h .sum) 0) there .found ≡ scanned (scan m i)
-  ended o = go there refl o ∙ h .same
+  pub ended : turn there (Ends (h .sum) 0) .on ≡ false → turn there (Ends (h .sum) 0) .found ≡ scanned (scan m i)
+  ended o = go taken refl o ∙ h .same
     where
-      go : (t : Taken) → there ≡ t → turn (Ends (h .sum) 0) t .on ≡ false → turn (Ends (h .sum) 0) t .found ≡ plus (h .sum) (scanned (scan m (h .at)))
+      go :
+          (t : Taken) → taken ≡ t → turn (sized t) (Ends (h .sum) 0) .on ≡ false
+          → turn (sized t) (Ends (h .sum) 0) .found ≡ plus (h .sum) (scanned (scan m (h .at)))
       go (One c next) e o = absurd (false≢true (sym o))
       go (Last n) e o =
           let k : h .sum ≡ h .sum + total halves [] = omega (arith, total-empty halves) in
@@ -104,16 +112,16 @@ module _ {m : List ℕ} {i : CodeBytes} (h : Here m i) where
   module _ (short : length m < 2 ^ 63) where
     -- the sum fits when what is taken is added
     pub room : h .sum + more there < 2 ^ 64
-    room = go there refl
+    room = go taken refl
       where
-        go : (t : Taken) → there ≡ t → h .sum + more t < 2 ^ 64
+        go : (t : Taken) → taken ≡ t → h .sum + more (sized t) < 2 ^ 64
         go (One c next) e =
             let n = take-next takes m (h .at .0) (ap seen e) in
             omega (arith, n .far, n .near, take-size m (h .at .0) (ap seen e) .1, h .few)
         go (Last n) e = omega (arith, h .fits)
         go (Bad j) e = omega (arith, h .fits)
 
-    module _ (o : turn (Ends (h .sum) 0) there .on ≡ true) where
+    module _ (o : turn there (Ends (h .sum) 0) .on ≡ true) where
       -- the next turn, and that it is nearer the end
       pub keeps : plus (h .sum + more there) (scanned (scan m (past there (h .at)))) ≡ scanned (scan m i)
       keeps = onward o .kept ∙ h .same

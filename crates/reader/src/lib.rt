@@ -1,14 +1,15 @@
 // The reader on code bytes: one code after the other, a pass over a code list, and skipping codes. It knows neither registers nor
 // records.
-use codes::Code;
-use codes::Taken;
-use codes::take_at;
+use codes::Sized;
+use codes::size_at;
 use words::CodeBytes;
 use words::Refusal;
 use words::halfword_bytes;
 ghost use mathlib.Core.Path.{_≡_};
 ghost use Prim.Native.Nat.{_+_, _<_};
 ghost use Rattle.codes.specs.Code.{takeAt, scan as scanOf};
+ghost use Rattle.codes.specs.as_coded.Rows.{rowNumbers};
+ghost use Rattle.codes.specs.as_coded.Sizing.{sized};
 ghost use Rattle.reader.specs.as_coded.Reading.{past, moved, scanned, turn, soFar, more};
 ghost use Rattle.reader.specs.as_coded.Skip.{skipAt};
 
@@ -18,26 +19,27 @@ pub struct Reader<'a> {
     pub at: CodeBytes,
 }
 
-// What a reader took, and the reader behind it.
+// What a reader took, without what it undoes, and the reader behind it.
 pub struct Step<'a> {
-    pub taken: Taken,
+    pub taken: Sized,
     pub rest: Reader<'a>,
 }
 
 // What stands at an index, and where a reader stands that has taken it.
 struct Moved {
-    taken: Taken,
+    taken: Sized,
     at: CodeBytes,
 }
 
-fn move_at(codes: &[u8], at: CodeBytes) -> Moved
-    ensures { λ r. ⌜ r ≡ moved (takeAt (now (codes .entry)) at) at ⌝ }
+fn move_at(codes: &[u8], at: CodeBytes, t: &[u8; 256]) -> Moved
+    requires { ⌜ now t ≡ rowNumbers ⌝ }
+    ensures { λ r. ⌜ r ≡ moved (sized (takeAt (now (codes .entry)) at)) at ⌝ }
 {
-    let taken = take_at(codes, at);
+    let taken = size_at(t, codes, at);
     match taken {
-        Taken::One(_, next) => Moved { taken, at: next },
-        Taken::Last(_) => Moved { taken, at },
-        Taken::Bad(_) => Moved { taken, at },
+        Sized::One(_, next) => Moved { taken, at: next },
+        Sized::Last(_) => Moved { taken, at },
+        Sized::Bad(_) => Moved { taken, at },
     }
 }
 
@@ -48,12 +50,13 @@ impl<'a> Reader<'a> {
         Reader { codes, at }
     }
 
-    // Takes one code, and hands the reader on.
-    pub fn take(self) -> Step<'a>
-        ensures { λ s. ⌜ (s .taken ≡ takeAt (now (self .entry .codes)) (self .entry .at))
-            × (s .rest ≡ record { codes = self .entry .codes; at = past (takeAt (now (self .entry .codes)) (self .entry .at)) (self .entry .at) }) ⌝ }
+    // Takes one code, and hands the reader on. The table of `codes` is lent.
+    pub fn take(self, t: &[u8; 256]) -> Step<'a>
+        requires { ⌜ now t ≡ rowNumbers ⌝ }
+        ensures { λ s. ⌜ (s .taken ≡ sized (takeAt (now (self .entry .codes)) (self .entry .at)))
+            × (s .rest ≡ record { codes = self .entry .codes; at = past (sized (takeAt (now (self .entry .codes)) (self .entry .at))) (self .entry .at) }) ⌝ }
     {
-        let m = move_at(self.codes, self.at);
+        let m = move_at(self.codes, self.at, t);
         Step {
             taken: m.taken,
             rest: Reader {
@@ -78,46 +81,53 @@ struct Turn {
 }
 
 // Adds what was taken to a pass.
-fn add(s: Scanned, t: Taken) -> Turn
+fn add(s: Scanned, t: Sized) -> Turn
     requires { ⌜ soFar s + more t < 18446744073709551616 ⌝ }
-    ensures { λ r. ⌜ r ≡ turn s t ⌝ }
+    ensures { λ r. ⌜ r ≡ turn t s ⌝ }
 {
-    match s {
-        Scanned::Refused(_) => Turn {
-            on: false,
-            found: s,
-        },
-        Scanned::Ends(h, _) => match t {
-            Taken::One(c, _) => Turn {
+    match t {
+        Sized::One(n, _) => match s {
+            Scanned::Ends(h, _) => Turn {
                 on: true,
-                found: Scanned::Ends(h + c.size.0 as u64, 0),
+                found: Scanned::Ends(h + n.0 as u64, 0),
             },
-            Taken::Last(n) => Turn {
+            Scanned::Refused(_) => Turn {
+                on: false,
+                found: s,
+            },
+        },
+        Sized::Last(n) => match s {
+            Scanned::Ends(h, _) => Turn {
                 on: false,
                 found: Scanned::Ends(h, n.0 as u64),
             },
-            Taken::Bad(i) => Turn {
+            Scanned::Refused(_) => Turn {
                 on: false,
-                found: Scanned::Refused(Refusal::BadCodes(i)),
+                found: s,
             },
+        },
+        Sized::Bad(i) => Turn {
+            on: false,
+            found: Scanned::Refused(Refusal::BadCodes(i)),
         },
     }
 }
 
-// One pass of a reader over the code list at an index.
-pub fn scan(codes: &[u8], at: CodeBytes) -> Scanned
+// One pass of a reader over the code list at an index. The table of `codes` is lent.
+pub fn scan(t: &[u8; 256], codes: &[u8], at: CodeBytes) -> Scanned
+    requires { ⌜ now t ≡ rowNumbers ⌝ }
     ensures { λ r. ⌜ r ≡ scanned (scanOf (now (codes .entry)) at) ⌝ }
 {
     let mut r = Reader::new(codes, at);
     let mut s = Scanned::Ends(0, 0);
     loop {
-        let t = r.take();
-        let u = add(s, t.taken);
+        let p = r.take(t);
+        let u = add(s, p.taken);
         s = u.found;
         if !u.on {
             break;
         }
-        r = t.rest;
+        r = p.rest;
     }
     s
 }
@@ -128,27 +138,28 @@ pub enum Skipped {
     Nowhere,
 }
 
-// Skips the codes from an index on whose instructions take n bytes.
-pub fn skip(codes: &[u8], at: CodeBytes, n: u64) -> Skipped
+// Skips the codes from an index on whose instructions take n bytes. The table of `codes` is lent.
+pub fn skip(t: &[u8; 256], codes: &[u8], at: CodeBytes, n: u64) -> Skipped
+    requires { ⌜ now t ≡ rowNumbers ⌝ }
     ensures { λ r. ⌜ r ≡ skipAt (now (codes .entry)) at n ⌝ }
 {
     let mut i = at.0;
     let mut left = n;
     while left != 0 {
-        let t = take_at(codes, CodeBytes(i));
-        match t {
-            Taken::One(c, next) => {
-                let size = halfword_bytes(c.size);
+        let c = size_at(t, codes, CodeBytes(i));
+        match c {
+            Sized::One(h, next) => {
+                let size = halfword_bytes(h);
                 if left < size {
                     return Skipped::Nowhere;
                 }
                 left -= size;
                 i = next.0;
             }
-            Taken::Last(_) => {
+            Sized::Last(_) => {
                 return Skipped::Nowhere;
             }
-            Taken::Bad(_) => {
+            Sized::Bad(_) => {
                 return Skipped::Nowhere;
             }
         }

@@ -9,7 +9,7 @@ use mathlib.Core.List.{List, _∷_, [], _++_}
 use lib.ListN.{length, take, drop, replicate, length-take}
 use lib.Dec.{eqb, leb}
 use native.Mathlib.Omega.{arith}
-use borrow.Author.Tests.{eq-eqb, ne-eqb, leb-true}
+use borrow.Author.Tests.{leb-true}
 use Rattle.words.specs.Bits.{bits}
 use Rattle.lent.specs.Lent.{Lent, lent, holds, wordAt}
 use Rattle.lent.specs.Little.{word32}
@@ -27,7 +27,7 @@ use Rattle.packed.specs.Packed.{fields, allowed}
 use Rattle.packed_codes.specs.PackedCodes.{firstList, secondList, written, writeCodes}
 use Rattle.record.specs.Record.{lastScope, fullShape, packedShape, shapeAt}
 use Rattle.xdata.specs.Scopes.{scopeOf, scopesAt}
-use Rattle.record.specs.as_coded.Plan.{byVerdict, scopeIn, scopesFrom, scopesOf, planOf, fullBy, afterHead, fullPlan, fullAnswer, shapeBy, fullShapeBy, packedPlanBy, packedBy, packedPlan, packedAnswer, packedShapeBy}
+use Rattle.record.specs.as_coded.Plan.{byVerdict, scopeIn, scopesEnd, scopesFrom, scopesOf, planOf, fullBy, afterHead, fullPlan, fullAnswer, shapeBy, fullShapeBy, packedPlanBy, packedBy, packedPlan, packedAnswer, packedShapeBy, readBy, readOf, codesIn, readShape}
 use Rattle.xdata.specs.as_coded.Scopes.{resZero}
 use Rattle.xdata.specs.declared.Head.{Head}
 use Rattle.record.specs.declared.Scopes.{Scopes}
@@ -36,14 +36,12 @@ use Rattle.record.specs.declared.FullOf.{FullOf}
 use Rattle.packed.specs.declared.Packed.{Packed}
 use Rattle.packed_codes.specs.declared.CodesOf.{CodesOf}
 use Rattle.record.specs.declared.PackedOf.{PackedOf}
+use Rattle.record.specs.declared.ReadOf.{ReadOf}
 use Rattle.record.specs.Record as Record
 use Rattle.words.proofs.Tests.{if-true, if-false}
 use Rattle.xdata.proofs.Heads.{head-small}
 
 -- a plan's scopes, one after another: what a loop over them cites
-pub scopes-all : (c : Scopes) (s : List ℕ) (n : ℕ) → scopesFrom c s 0 n ≡ scopesFrom c s 0 (n - 0)
-scopes-all c s n = let e : n ≡ n - 0 = omega arith in ap (scopesFrom c s 0) e
-
 pub scopes-done : (c : Scopes) (s : List ℕ) (k n : ℕ) → n ≤ k → scopesFrom c s k (n - k) ≡ []
 unfolding scopesFrom
 scopes-done c s k n h = let e : n - k ≡ 0 = omega arith in rw e refl
@@ -52,6 +50,11 @@ pub scopes-next :
     (c : Scopes) (s : List ℕ) (k n : ℕ) → k < n → scopesFrom c s k (n - k) ≡ scopeIn c s k ∷ scopesFrom c s (k + 1) (n - (k + 1))
 unfolding scopesFrom
 scopes-next c s k n h = let e : n - k ≡ suc (n - (k + 1)) = omega arith in rw e refl
+
+-- the word of a scope is in the .xdata where all are
+pub scopes-inside : (c : Scopes) (k n m : ℕ) → k < n → scopesEnd c n ≤ m → scopesEnd c (k + 1) ≤ m
+scopes-inside (Ending i) k n m l h = omega arith
+scopes-inside (Listed at) k n m l h = omega (arith, l, h)
 
 -- one scope word before others
 unfoldable stepBy : ℕ → Res (List Scope) → Res (List Scope)
@@ -127,8 +130,9 @@ lent-above x a n h = go (leb (x .base) a) refl h
     go true e q = (leb-true (x .base) a e, leb-true (a + n) (x .base + length (x .bytes)) q)
     go false e q = absurd (let z : _≡_ {A = ℕ} 0 1 = cc in omega arith)
 
-pub head-above : (x : Lent) (a : ℕ) (h : Head) → headAt x a ≡ ok h → x .base ≤ a
-head-above x a h e = lent-above x a (recordBytes h) (head-small x a h e .lent) .0
+-- so do a head that is given and its scopes
+pub head-lent : (x : Lent) (a : ℕ) (h : Head) → headAt x a ≡ ok h → (x .base ≤ a) × (a + codesOffset h ≤ x .base + length (x .bytes))
+head-lent x a h e = let w = lent-above x a (recordBytes h) (head-small x a h e .lent) in (w .0, omega (arith, w .1))
 
 -- a head's scopes are the plan's
 plan-scopes :
@@ -177,7 +181,7 @@ module _ (b : ℕ) (s : List ℕ) (a : ℕ) (f : FullOf) (is : f ≡ fullAnswer 
   by-scopes h e = go (resZero s (a - b + h .bytes) 0 (scopeCount h)) refl
     where
       above : b ≤ a
-      above = head-above (lent b s) a h e
+      above = head-lent (lent b s) a h e .0
 
       go : (t : Bool) → resZero s (a - b + h .bytes) 0 (scopeCount h) ≡ t → Outcome b s a f
       go true t =
@@ -195,23 +199,39 @@ module _ (b : ℕ) (s : List ℕ) (a : ℕ) (f : FullOf) (is : f ≡ fullAnswer 
       go (refuse why) e = refused why (is ∙ ap fullAnswer (plan-refused (lent b s) a why e)) (shape-refused (lent b s) a why e)
 
   -- the answer of `full` is the definition's shape, or its refusal
-  pub full-shape : fullShape (lent b s) a ≡ fullShapeBy f s
+  full-shape : fullShape (lent b s) a ≡ fullShapeBy f s
   full-shape = go outcome
     where
       go : Outcome b s a f → fullShape (lent b s) a ≡ fullShapeBy f s
       go (refused why p q) = q ∙ sym (ap (λ f. fullShapeBy f s) p)
-      go (given h e p q) = q ∙ ap ok (plan-shape b s a h (head-above (lent b s) a h e)) ∙ sym (ap (λ f. fullShapeBy f s) p)
+      go (given h e p q) = q ∙ ap ok (plan-shape b s a h (head-lent (lent b s) a h e .0)) ∙ sym (ap (λ f. fullShapeBy f s) p)
 
   -- and its code bytes are in the .xdata
-  pub full-inside : f .codes .start + f .codes .len ≤ length s
+  full-inside : f .codes .start + f .codes .len ≤ length s
   full-inside = go outcome
     where
       go : Outcome b s a f → f .codes .start + f .codes .len ≤ length s
       go (refused why p q) = rw p (omega arith)
       go (given h e p q) = rw p (omega (arith, lent-above (lent b s) a (recordBytes h) (head-small (lent b s) a h e .lent)))
 
-  -- of which there are at most 255 words
-  pub full-few : f .codes .len ≤ 1020
+  -- and so are its scope words
+  full-listed : scopesEnd (f .plan .scopes) (f .plan .count) ≤ length s
+  full-listed = go outcome
+    where
+      ends :
+          (t : Bool) (i : CodeBytes) (o h n m : ℕ) → o + (h + 4 * (if t then 0 else n)) ≤ m
+          → scopesEnd (if t then Ending i else Listed (o + h)) (if t then 1 else n) ≤ m
+      ends true i o h n m l = omega arith
+      ends false i o h n m l = omega (arith, l)
+
+      go : Outcome b s a f → scopesEnd (f .plan .scopes) (f .plan .count) ≤ length s
+      go (refused why p q) = rw p (omega arith)
+      go (given h e p q) =
+          rw p
+          (ends (E h) (codeBytes (h .count)) (a - b) (h .bytes) (h .count) (length s) (omega (arith, lent-above (lent b s) a (recordBytes h) (head-small (lent b s) a h e .lent))))
+
+  -- there are at most 255 words of code bytes
+  full-few : f .codes .len ≤ 1020
   full-few = go outcome
     where
       go : Outcome b s a f → f .codes .len ≤ 1020
@@ -251,7 +271,7 @@ unfolding packedShape
 packed-shape-refused w why e = rw e refl
 
 -- the answer of a packed record's plan is the definition's shape, or its refusal, beside any .xdata
-pub packed-shape : (w : ℕ) (s : List ℕ) (f : PackedOf) → f ≡ packedAnswer (packedPlan w) → packedShape w ≡ packedShapeBy f s
+packed-shape : (w : ℕ) (s : List ℕ) (f : PackedOf) → f ≡ packedAnswer (packedPlan w) → packedShape w ≡ packedShapeBy f s
 packed-shape w s f is = go (writeCodes w) refl
   where
     go : (r : Res CodesOf) → writeCodes w ≡ r → packedShape w ≡ packedShapeBy f s
@@ -259,26 +279,16 @@ packed-shape w s f is = go (writeCodes w) refl
     go (refuse why) e =
         packed-shape-refused w why e ∙ sym (ap (λ f. packedShapeBy f s) (is ∙ ap packedAnswer (packed-refused w why e)))
 
--- the shape of a .pdata record, by its Flag
-pub shape-full : (x : Lent) (w : ℕ) → bits 0 2 w ≡ 0 → shapeAt x w ≡ fullShape x w
-shape-full x w h = rw (eq-eqb (bits 0 2 w) 0 h) refl
+-- it has no scope words
+packed-listed : (w : ℕ) (f : PackedOf) → f ≡ packedAnswer (packedPlan w) → (s : List ℕ) → scopesEnd (f .plan .scopes) (f .plan .count) ≤ length s
+packed-listed w f is s = go (writeCodes w) refl
+  where
+    go : (r : Res CodesOf) → writeCodes w ≡ r → scopesEnd (f .plan .scopes) (f .plan .count) ≤ length s
+    go (ok c) e = rw (is ∙ ap packedAnswer (packed-given w c e)) (omega arith)
+    go (refuse why) e = rw (is ∙ ap packedAnswer (packed-refused w why e)) (omega arith)
 
-pub shape-packed : (x : Lent) (w : ℕ) → (bits 0 2 w ≡ 0 → ⊥) → shapeAt x w ≡ packedShape w
-shape-packed x w h = rw (ne-eqb (bits 0 2 w) 0 h) refl
-
--- an answer's verdict is the shape's
-told : (v : Verdict) (sh : Shape) → v ≡ verdict (byVerdict v sh)
-told Given sh = refl
-told (Refused r) sh = refl
-
-pub full-told : (b : ℕ) (s : List ℕ) (a : ℕ) (f : FullOf) → f ≡ fullAnswer (fullPlan (lent b s) a) → f .verdict ≡ verdict (fullShape (lent b s) a)
-full-told b s a f is = told (f .verdict) _ ∙ sym (ap verdict (full-shape b s a f is))
-
-pub packed-told : (w : ℕ) (f : PackedOf) → f ≡ packedAnswer (packedPlan w) → f .verdict ≡ verdict (packedShape w)
-packed-told w f is = told (f .verdict) _ ∙ sym (ap verdict (packed-shape w [] f is))
-
--- a packed record has few code bytes
-pub packed-few : (w : ℕ) (f : PackedOf) → f ≡ packedAnswer (packedPlan w) → length (f .bytes) ≤ 1020
+-- and few code bytes
+packed-few : (w : ℕ) (f : PackedOf) → f ≡ packedAnswer (packedPlan w) → length (f .bytes) ≤ 1020
 unfolding packedPlan writeCodes
 packed-few w f is = go (allowed (fields w)) is
   where
@@ -286,20 +296,54 @@ packed-few w f is = go (allowed (fields w)) is
     go true q = rw q (omega (arith, length-take 16 (firstList (fields w) ++ secondList (fields w) ++ replicate 16 0)))
     go false q = rw q (omega arith)
 
--- and so has every record
+-- ---- a record of either kind
+module _ (b : ℕ) (s : List ℕ) (w : ℕ) (f : ReadOf) (is : f ≡ readOf (lent b s) w) where
+  -- what was read is the definition's shape, or its refusal
+  pub read-shape : shapeAt (lent b s) w ≡ readShape s f
+  read-shape = go (eqb (bits 0 2 w) 0) ∙ sym (ap (readShape s) is)
+    where
+      go : (t : Bool) → (if t then fullShape (lent b s) w else packedShape w) ≡ readShape s (readBy t (lent b s) w)
+      go true = full-shape b s w (fullAnswer (fullPlan (lent b s) w)) refl
+      go false = packed-shape w s (packedAnswer (packedPlan w)) refl
+
+  -- and its verdict is the shape's
+  pub read-told : f .verdict ≡ verdict (shapeAt (lent b s) w)
+  read-told = go (f .verdict) ∙ sym (ap verdict read-shape)
+    where
+      go : (v : Verdict) → v ≡ verdict (byVerdict v (shapeBy (f .plan) (codesIn s f) s))
+      go Given = refl
+      go (Refused r) = refl
+
+  -- its code bytes and its scope words are in the .xdata
+  pub read-inside : f .codes .start + f .codes .len ≤ length s
+  read-inside = subst (λ (g : ReadOf). g .codes .start + g .codes .len ≤ length s) (sym is) (go (eqb (bits 0 2 w) 0))
+    where
+      go : (t : Bool) → (let g = readBy t (lent b s) w in g .codes .start + g .codes .len ≤ length s)
+      go true = full-inside b s w (fullAnswer (fullPlan (lent b s) w)) refl
+      go false = omega arith
+
+  pub read-listed : scopesEnd (f .plan .scopes) (f .plan .count) ≤ length s
+  read-listed = subst (λ (g : ReadOf). scopesEnd (g .plan .scopes) (g .plan .count) ≤ length s) (sym is) (go (eqb (bits 0 2 w) 0))
+    where
+      go : (t : Bool) → (let g = readBy t (lent b s) w in scopesEnd (g .plan .scopes) (g .plan .count) ≤ length s)
+      go true = full-listed b s w (fullAnswer (fullPlan (lent b s) w)) refl
+      go false = packed-listed w (packedAnswer (packedPlan w)) refl s
+
+  -- it has few code bytes
+  pub read-few : length (codesIn s f) ≤ 1020
+  read-few = subst (λ (g : ReadOf). length (codesIn s g) ≤ 1020) (sym is) (go (eqb (bits 0 2 w) 0))
+    where
+      go : (t : Bool) → length (codesIn s (readBy t (lent b s) w)) ≤ 1020
+      go true =
+          let g = fullAnswer (fullPlan (lent b s) w) in
+          omega (arith, full-few b s w g refl, length-take (g .codes .len) (drop (g .codes .start) s))
+      go false = packed-few w (packedAnswer (packedPlan w)) refl
+
 few-by : (v : Verdict) (sh s : Shape) → length (sh .codes) ≤ 1020 → byVerdict v sh ≡ ok s → length (s .codes) ≤ 1020
 few-by Given sh s n q = subst (λ y. length (y .codes) ≤ 1020) (ok-same sh s q) n
 few-by (Refused r) sh s n q = absurd (let z : _≡_ {A = ℕ} 0 1 = cc in omega arith)
 
 pub shape-few : (x : Lent) (w : ℕ) (s : Shape) → shapeAt x w ≡ ok s → length (s .codes) ≤ 1020
-shape-few x w s q = go (eqb (bits 0 2 w) 0) q
-  where
-    go : (t : Bool) → (if t then fullShape x w else packedShape w) ≡ ok s → length (s .codes) ≤ 1020
-    go true h =
-        let f = fullAnswer (fullPlan x w) in
-        let part = take (f .codes .len) (drop (f .codes .start) (x .bytes)) in
-        let n : length part ≤ 1020 = omega (arith, full-few (x .base) (x .bytes) w f refl, length-take (f .codes .len) (drop (f .codes .start) (x .bytes))) in
-        few-by (f .verdict) (shapeBy (f .plan) part (x .bytes)) s n (sym (full-shape (x .base) (x .bytes) w f refl) ∙ h)
-    go false h =
-        let f = packedAnswer (packedPlan w) in
-        few-by (f .verdict) (shapeBy (f .plan) (f .bytes) []) s (packed-few w f refl) (sym (packed-shape w [] f refl) ∙ h)
+shape-few x w s q =
+    let f = readOf x w in
+    few-by (f .verdict) (shapeBy (f .plan) (codesIn (x .bytes) f) (x .bytes)) s (read-few (x .base) (x .bytes) w f refl) (sym (read-shape (x .base) (x .bytes) w f refl) ∙ q)

@@ -11,12 +11,13 @@ use xdata::Head;
 ghost use mathlib.Core.Path.{_≡_};
 ghost use Prim.Native.Nat.{_+_, _-_, _≤_, _<_};
 ghost use lib.Dec.{eqb};
+ghost use lib.ListN.{length};
 ghost use Rattle.lent.specs.Lent.{lent};
 ghost use Rattle.words.specs.Answer.{refuse, verdict, if_then_else_};
 ghost use Rattle.record.specs.Record.{shapeAt};
 ghost use Rattle.packed.specs.Packed.{Fit};
-ghost use Rattle.xdata.specs.Xdata.{E};
-ghost use Rattle.record.specs.as_coded.Plan.{scopeIn, scopesOf, planOf, fullBy, afterHead, fullPlan, fullAnswer, noPlan, packedPlanBy, packedBy, packedPlan, packedAnswer};
+ghost use Rattle.xdata.specs.Xdata.{E, codesOffset};
+ghost use Rattle.record.specs.as_coded.Plan.{readOf, picked, scopeIn, scopesEnd, scopesOf, planOf, fullBy, afterHead, fullPlan, fullAnswer, noPlan, packedPlanBy, packedBy, packedPlan, packedAnswer};
 
 // A record's epilogues: each ends where the function does and has this index, or they are scope words from this offset of the .xdata on.
 pub enum Scopes {
@@ -54,8 +55,35 @@ pub struct PackedOf {
     pub bytes: [u8; 16],
 }
 
-// The scope of a number; a plan has as many as its count says.
+// A record of either kind: its plan, and its code bytes, which are sixteen that were written or a part of the .xdata.
+pub struct ReadOf {
+    pub verdict: Verdict,
+    pub plan: Plan,
+    pub written: bool,
+    pub codes: Part,
+    pub bytes: [u8; 16],
+}
+
+// The code bytes of a record: those that were written, or the part of the .xdata from start up to end.
+pub fn pick<'a>(
+    written: bool,
+    bytes: &'a [u8],
+    xdata: &'a [u8],
+    start: usize,
+    end: usize,
+) -> &'a [u8]
+    requires { ⌜ (start ≤ end) × (end ≤ length (now xdata)) ⌝ }
+    ensures { λ r. ⌜ now r ≡ picked written (now (bytes .entry)) (now (xdata .entry)) start (end - start) ⌝ }
+{
+    if written {
+        return bytes;
+    }
+    &xdata[start..end]
+}
+
+// The scope of a number; a plan has as many as its count says, and whoever read the plan has found their words in the .xdata.
 pub fn scope(plan: Plan, xdata: &[u8], k: usize) -> Scope
+    requires { ⌜ scopesEnd (plan .scopes) (k + 1) ≤ length (now xdata) ⌝ }
     ensures { λ r. ⌜ r ≡ scopeIn (plan .scopes) (now (xdata .entry)) k ⌝ }
 {
     let scopes = plan.scopes;
@@ -65,7 +93,7 @@ pub fn scope(plan: Plan, xdata: &[u8], k: usize) -> Scope
             condition: 14,
             index: i,
         },
-        Scopes::Listed(at) => xdata::scope_of(xdata::word_after(xdata, at, k)),
+        Scopes::Listed(at) => xdata::scope_of(lent::word32_in(xdata, at + 4 * k)),
     }
 }
 
@@ -152,9 +180,9 @@ fn full_of(rva: u32, xdata: &[u8], at: u32, h: Head) -> FullOf
     }
 }
 
-// The same, if its scopes have Res 0.
+// The same, if its scopes have Res 0; they are lent, as the head's test of its whole record says.
 fn after_head(rva: u32, xdata: &[u8], at: u32, h: Head) -> FullOf
-    requires { ⌜ rva ≤ at ⌝ }
+    requires { ⌜ (rva ≤ at) × (at + codesOffset h ≤ rva + length (now xdata)) ⌝ }
     ensures { λ r. ⌜ r ≡ fullAnswer (afterHead (lent rva (now (xdata .entry))) at h) ⌝ }
 {
     let first = offset(rva, at) + (h.bytes as usize);
@@ -165,7 +193,7 @@ fn after_head(rva: u32, xdata: &[u8], at: u32, h: Head) -> FullOf
 }
 
 // The full record at an RVA: what its head is refused for, then its scopes' Res (RULES 9.52).
-pub fn full(rva: u32, xdata: &[u8], at: u32) -> FullOf
+fn full(rva: u32, xdata: &[u8], at: u32) -> FullOf
     ensures { λ r. ⌜ r ≡ fullAnswer (fullPlan (lent rva (now (xdata .entry))) at) ⌝ }
 {
     let read = xdata::head_at(rva, xdata, at);
@@ -224,7 +252,7 @@ fn no_packed(why: Refusal) -> PackedOf
 }
 
 // The packed record of a word: its plan and its code bytes.
-pub fn packed(word: u32) -> PackedOf
+fn packed(word: u32) -> PackedOf
     ensures { λ r. ⌜ r ≡ packedAnswer (packedPlan word) ⌝ }
 {
     let c = packed_codes::write_codes(word);
@@ -235,14 +263,40 @@ pub fn packed(word: u32) -> PackedOf
     }
 }
 
+// The record that word 1 of a .pdata record names, by its Flag (RULES 2.2).
+pub fn read(rva: u32, xdata: &[u8], word: u32) -> ReadOf
+    ensures { λ r. ⌜ r ≡ readOf (lent rva (now (xdata .entry))) word ⌝ }
+{
+    if words::bits(word, 0, 2) == 0 {
+        let f = full(rva, xdata, word);
+        let verdict = f.verdict;
+        let plan = f.plan;
+        let codes = f.codes;
+        return ReadOf {
+            verdict,
+            plan,
+            written: false,
+            codes,
+            bytes: [0u8; 16],
+        };
+    }
+    let p = packed(word);
+    let verdict = p.verdict;
+    let plan = p.plan;
+    let bytes = p.bytes;
+    ReadOf {
+        verdict,
+        plan,
+        written: true,
+        codes: Part { start: 0, len: 0 },
+        bytes,
+    }
+}
+
 // 4 and 5 for word 1 of a .pdata record (RULES 9.51, 9.52).
 pub fn judge(rva: u32, xdata: &[u8], word: u32) -> Verdict
     ensures { λ r. ⌜ r ≡ verdict (shapeAt (lent rva (now (xdata .entry))) word) ⌝ }
 {
-    if words::bits(word, 0, 2) == 0 {
-        let f = full(rva, xdata, word);
-        return f.verdict;
-    }
-    let p = packed(word);
-    p.verdict
+    let f = read(rva, xdata, word);
+    f.verdict
 }

@@ -3,10 +3,11 @@ ghost use mathlib.Core.Path.{_≡_};
 ghost use Prim.Native.Nat.{_≤_};
 ghost use lib.ListN.{length, take};
 ghost use Rattle.words.specs.declared.Refusal.the-variants.{UnfitReport};
-ghost use Rattle.report.specs.Report.{same, mark, words32, words64, regsOf};
+ghost use Rattle.report.specs.Report.{same, mark, headBytes, words32, words64, regsOf};
 ghost use Rattle.report.specs.as_coded.Parts.{parts, noParts, Lie};
 use lent::word32;
-use lent::word64;
+use lent::word32_in;
+use lent::word64_in;
 use machine::Regs;
 use words::Refusal;
 use words::Verdict;
@@ -38,14 +39,15 @@ fn marked(file: &[u8]) -> bool
     check::same(&file[0..8], b"WLK\x01\0\0\0\0")
 }
 
-// r0-r12.
+// r0-r12. These three functions read a head that is there: `read_report` has tested the length.
 fn integers(file: &[u8]) -> [u32; 13]
+    requires { ⌜ headBytes ≤ length (now file) ⌝ }
     ensures { λ r. ⌜ r ≡ words32 (now (file .entry)) 32 13 ⌝ }
 {
     let mut r = [0u32; 13];
     let mut i = 0;
     while i < 13 {
-        let word = word32(file, 32 + 4 * i);
+        let word = word32_in(file, 32 + 4 * i);
         r[i] = word;
         i += 1;
     }
@@ -54,12 +56,13 @@ fn integers(file: &[u8]) -> [u32; 13]
 
 // d0-d31.
 fn doubles(file: &[u8]) -> [u64; 32]
+    requires { ⌜ headBytes ≤ length (now file) ⌝ }
     ensures { λ r. ⌜ r ≡ words64 (now (file .entry)) 96 32 ⌝ }
 {
     let mut d = [0u64; 32];
     let mut i = 0;
     while i < 32 {
-        let word = word64(file, 96 + 8 * i);
+        let word = word64_in(file, 96 + 8 * i);
         d[i] = word;
         i += 1;
     }
@@ -67,6 +70,7 @@ fn doubles(file: &[u8]) -> [u64; 32]
 }
 
 fn registers(file: &[u8]) -> Regs
+    requires { ⌜ headBytes ≤ length (now file) ⌝ }
     ensures { λ r. ⌜ r ≡ regsOf (now (file .entry)) ⌝ }
 {
     let r = integers(file);

@@ -60,6 +60,14 @@ unfolding decimalLength
 decimal-more zero v p h e = absurd (omega arith)
 decimal-more (suc n) v {r} p h e = rw (le-ltb v 10 h) (let q : r ≡ decimalLength n (v / 10) = rw sub-one at e in omega arith)
 
+pub decimal-two : (v : ℕ) → 10 ≤ v → v < 100 → 2 ≡ decimalLength 20 v
+decimal-two v p h = decimal-more 20 v (omega arith) p (decimal-one 19 (v / 10) (omega arith))
+
+pub decimal-three : (v : ℕ) → 100 ≤ v → v < 1000 → 3 ≡ decimalLength 20 v
+decimal-three v p h =
+    decimal-more 20 v (omega arith) (omega arith)
+    (decimal-more 19 (v / 10) (omega arith) (omega arith) (decimal-one 18 (v / 10 / 10) (omega arith)))
+
 -- a decimal number has at most 21 digits, and at most k + 1 where it is below 10 ^ (k + 1)
 limit : (n v : ℕ) → decimalLength n v ≤ suc n
 unfolding decimalLength

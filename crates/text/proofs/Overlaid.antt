@@ -1,7 +1,7 @@
 -- Laws of text laid over a buffer.
 -- Assumes nothing.
 use Prim.Native.Nat.{ℕ, _+_, _-_, _^_, _≤_, _<_, min}
-use mathlib.Core.Path.{_≡_, refl, sym, ap, _∙_, subst}
+use mathlib.Core.Path.{_≡_, refl, sym, ap, ap₂, _∙_, subst}
 use mathlib.Core.Bool.{Bool, true, false}
 use mathlib.Core.List.{List, [], _∷_, _++_, append-assoc}
 use lib.ListN.{length, set, length-set, length-append}
@@ -24,6 +24,19 @@ overlay-append b i (c ∷ s) t =
     let e : i + 1 + length s ≡ i + length (c ∷ s) = omega arith in
     overlay-append (set b i c) (i + 1) s t ∙ ap (λ k. overlay (overlay (set b i c) (i + 1) s) k t) e
 
+-- four bytes are four stores
+pub overlay-four :
+    (b : List ℕ) (i c d e f : ℕ) → overlay b i (c ∷ d ∷ e ∷ f ∷ []) ≡ set (set (set (set b i c) (i + 1) d) (i + 2) e) (i + 3) f
+unfolding overlay
+overlay-four b i c d e f =
+    let two : i + 1 + 1 ≡ i + 2 = omega arith in
+    let three : i + 1 + 1 + 1 ≡ i + 3 = omega arith in
+    ap₂ (λ j k. set (set (set (set b i c) (i + 1) d) j e) k f) two three
+
+-- one byte more is one store more
+pub overlay-next : (b : List ℕ) (i : ℕ) (t : List ℕ) (c : ℕ) → overlay b i (t ++ (c ∷ [])) ≡ set (overlay b i t) (i + length t) c
+overlay-next b i t c = overlay-append b i t (c ∷ []) ∙ overlay-one (overlay b i t) (i + length t) c
+
 -- the buffer keeps its length, and all its bytes where the text falls past its end
 pub overlay-length : (b : List ℕ) (i : ℕ) (t : List ℕ) → length (overlay b i t) ≡ length b
 unfolding overlay
@@ -42,6 +55,10 @@ none b i h l = record { place = omega arith; bytes = refl; room = l }
 
 pub one : (b o : List ℕ) (i r c : ℕ) → r ≡ min (i + 1) (2 ^ 64 - 1) → o ≡ set b i c → length b < 2 ^ 64 → Laid b i (c ∷ []) r o
 one b o i r c e f l = record { place = e; bytes = f ∙ sym (overlay-one b i c); room = l }
+
+-- a text that has room
+pub fitted : {b o t : List ℕ} {i r : ℕ} → r ≡ i + length t → r ≤ length b → length b < 2 ^ 64 → o ≡ overlay b i t → Laid b i t r o
+fitted e h l f = record { place = omega arith; bytes = f; room = l }
 
 -- the place of a second text, which only a text past the buffer's end can have cut
 met : (b : List ℕ) (i n : ℕ) (t : List ℕ) → length b < 2 ^ 64 → overlay b (min (i + n) (2 ^ 64 - 1)) t ≡ overlay b (i + n) t

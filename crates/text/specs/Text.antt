@@ -34,6 +34,10 @@ hex8 v = digits 16 8 v []
 abbrev pub hex16 : ℕ → List ℕ
 hex16 v = digits 16 16 v []
 
+-- two addresses between spaces
+abbrev pub addresses : (pc sp : ℕ) → List ℕ
+addresses pc sp = text " " ++ hex8 pc ++ text " " ++ hex8 sp ++ text " "
+
 -- n texts one after the other, by number, the first of which has number k
 unfoldable pub numbered : (ℕ → List ℕ) → (k n : ℕ) → List ℕ
 numbered f k zero = []

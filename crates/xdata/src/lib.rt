@@ -8,7 +8,8 @@ use words::Verdict;
 use words::bit;
 use words::bits;
 ghost use mathlib.Core.Path.{_≡_};
-ghost use Prim.Native.Nat.{_+_, _*_, _<_};
+ghost use Prim.Native.Nat.{_+_, _*_, _<_, _≤_};
+ghost use lib.ListN.{length};
 ghost use Rattle.lent.specs.Lent.{lent};
 ghost use Rattle.lent.specs.Little.{word32};
 ghost use Rattle.words.specs.Answer.{ok, refuse};
@@ -233,26 +234,14 @@ pub fn scope_of(word: u32) -> Scope
     }
 }
 
-// The word k words after an offset; 0 past the end.
-pub fn word_after(xdata: &[u8], at: usize, k: usize) -> u32
-    ensures { λ r. ⌜ r ≡ word32 (now (xdata .entry)) (at + 4 * k) ⌝ }
-{
-    if xdata.len() <= at {
-        return 0;
-    }
-    if (xdata.len() - at) / 4 < k {
-        return 0;
-    }
-    lent::word32(xdata, at + 4 * k)
-}
-
-// Whether n scope words have Res 0.
+// Whether n scope words have Res 0. The caller has tested that they are there: they belong to a record that is lent whole.
 pub fn res_zero(xdata: &[u8], at: usize, n: usize) -> bool
+    requires { ⌜ at + 4 * n ≤ length (now xdata) ⌝ }
     ensures { λ r. ⌜ r ≡ resZero (now (xdata .entry)) at 0 n ⌝ }
 {
     let mut k = 0;
     while k < n {
-        if bits(word_after(xdata, at, k), 18, 2) != 0 {
+        if bits(lent::word32_in(xdata, at + 4 * k), 18, 2) != 0 {
             return false;
         }
         k += 1;

@@ -2,7 +2,6 @@
 -- Assumes nothing.
 use mathlib.Core.Path.{refl}
 use mathlib.Core.Logic.{inl, inr, ⊎-elim}
-use borrow.Author.Needs.{needs}
 use borrow.Author.Tests.{ne-eqb}
 use Rattle.codes.proofs.sp_from.Statement.{statement}
 use Rattle.codes.proofs.sp_from.Tie as tie
@@ -15,4 +14,4 @@ returns-2 : tie.Need-returns-2
 returns-2 c = rw (ne-eqb _ _ (λ e. c .match .rest .1 (inl e)), ne-eqb _ _ (λ e. c .match .rest .1 (inr e))) refl
 
 pub sp-from-spec : {M : Type 1} → statement M
-sp-from-spec = tie.close (tie.spec (λ c. search needs) returns returns-2)
+sp-from-spec = tie.close (tie.spec returns returns-2)

@@ -10,30 +10,23 @@ use Rattle.codes.proofs.take_as.Tie as tie
 
 returns : tie.Need-returns
 returns c =
-    let a = c .before .before .before .before .before .args in
-    ap₂ (λ s n. One (record { undo = c .before .m .given .0 .0; size = s }) n) (c .before .before .before .instruction-size .ensures .0) (c .before .before .before .before .before .pre)
-    ∙ ap (taken (a .at .0) (rowOf (a .b))) (sym (c .before .m .given .1) ∙ c .before .before .before .before .means .ensures)
+    let p = c .before .before .before .before .pre in
+    let a = c .before .before .before .before .args in
+    ap₂ (λ s n. One (record { undo = c .before .m .given .0 .0; size = s }) n) (p .0) (p .1)
+    ∙ ap (taken (a .at .0) (rowOf (a .b))) (sym (c .before .m .given .1) ∙ c .before .before .before .means .ensures)
 
 returns-2 : tie.Need-returns-2
 returns-2 c =
-    let a = c .before .before .before .before .args in
-    ap Last (c .before .before .instruction-size .ensures .0)
-    ∙ ap (taken (a .at .0) (rowOf (a .b))) (sym (c .enum-told .given .1) ∙ c .before .before .before .means .ensures)
+    let a = c .before .before .before .args in
+    ap Last (c .before .before .before .pre .0)
+    ∙ ap (taken (a .at .0) (rowOf (a .b))) (sym (c .enum-told .given .1) ∙ c .before .before .means .ensures)
 
 returns-3 : tie.Need-returns-3
 returns-3 c =
-    let a = c .before .before .before .before .args in
-    ap (taken (a .at .0) (rowOf (a .b))) (sym (c .enum-told2 .given .1) ∙ c .before .before .before .means .ensures)
+    let a = c .before .before .before .args in
+    ap (taken (a .at .0) (rowOf (a .b))) (sym (c .enum-told2 .given .1) ∙ c .before .before .means .ensures)
 
 pub take-as-spec : {M : Type 1} → statement M
 take-as-spec =
     tie.close
-    (tie.spec
-    (λ c κs. search needs)
-    (λ c κs. search needs)
-    (λ c. search needs)
-    (λ c. search needs)
-    (λ c. search needs)
-    returns
-    returns-2
-    returns-3)
+    (tie.spec (λ c κs. search needs) (λ c. search needs) (λ c. search needs) (λ c. search needs) returns returns-2 returns-3)

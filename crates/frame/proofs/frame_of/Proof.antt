@@ -1,38 +1,15 @@
--- Where the checks pass, what is found by them is what the definition finds; else 1.
+-- What the frame came to in place is answered.
 -- Assumes nothing.
-use mathlib.Core.Path.{_≡_, refl, sym, ap, _∙_}
-use mathlib.Core.Bool.{true}
-use Rattle.pdata.specs.declared.Checked.{Checked}
-use Rattle.pdata.specs.Pdata.{find, checked}
-use Rattle.frame.specs.Frame.{inputs, unwound}
-use Rattle.frame.proofs.Finding.{frame-unfit, frame-fit}
+use mathlib.Core.Path.{ap, _∙_}
+use Rattle.frame.specs.Frame.{unwound}
 use borrow.Author.Needs.{needs}
 use Rattle.frame.proofs.frame_of.Statement.{statement}
 use Rattle.frame.proofs.frame_of.Tie as tie
-use Rattle.frame.proofs.after_find.Reads as after-find-reads
-use Rattle.frame.proofs.answer.refused.Reads as refused-reads
-use Rattle.pdata.proofs.find_in.Reads as find-in-reads
 
 returns : tie.Need-returns
 returns c =
-    let f = c .before in
-    let z = f .before .before .before .before .before in
-    let a = z .args in
-    λ h.
-    let t = inputs (a .image) (a .pdata .now) (a .rva) (a .xdata .now) (a .base) (a .stack .now) in
-    let w = frame-fit (a .first) t (a .g) (sym (ap (λ x. x .fit) h) ∙ f .before .if1 .taken) in
-    let s : _≡_ {A = Checked} (a .c) (checked (a .pdata .now)) =
-    λ i. record { fit = (f .before .if1 .taken ∙ sym (w .1)) i; sorted = ap (λ x. x .sorted) h i } in
-    c .after-find .ensures (a .pdata .now) (find (a .image) (a .pdata .now) (a .g .pc)) (f .find-in .ensures s) ∙ sym (ap (unwound (a .g)) (w .0))
-
-returns-2 : tie.Need-returns-2
-returns-2 c =
-    let z = c .before .before .before .before .before in
-    let a = z .args in
-    λ h.
-    let t = inputs (a .image) (a .pdata .now) (a .rva) (a .xdata .now) (a .base) (a .stack .now) in
-    c .refused .ensures ∙ sym (ap (unwound (a .g)) (frame-unfit (a .first) t (a .g) (sym (ap (λ x. x .fit) h) ∙ c .before .if1 .left)))
+    let a = c .before .before .before .before .before .before .before .before .before .before .before .args in
+    λ h. c .answered .ensures ∙ ap (unwound (a .g)) (c .before .frame-in .ensures h)
 
 pub frame-of-spec : {M : Type 1} → statement M
-frame-of-spec =
-    tie.close (tie.spec (λ c κs. search needs) (λ c κs. search needs) returns (λ c κs. search needs) returns-2)
+frame-of-spec = tie.close (tie.spec (λ c κs. search needs) (λ c κs. search needs) (λ c κs. search needs) returns)

@@ -1,5 +1,5 @@
 -- The caller from where the pc stands: the codes from an index run, 11, and the answer. That this is `within` is a law (`within-placed` of
--- proofs/Within.antt). And the caller by a record's shape, full or packed (`by-full`, `by-packed` of proofs/Records.antt).
+-- proofs/Within.antt), and that by the record found it is `byWord` (`word-placed` of proofs/Records.antt).
 use Prim.Native.Nat.{ℕ}
 use mathlib.Core.Path.{_≡_}
 use mathlib.Core.List.{List}
@@ -13,11 +13,10 @@ use Rattle.words.specs.declared.Refusal.the-variants.{SpFell}
 use Rattle.words.specs.declared.Verdict.{Verdict}
 use Rattle.words.specs.declared.Verdict.the-variants.{Given, Refused}
 use Rattle.words.specs.Answer.{Res, ok, refuse, _>>=_, _>>_, need, if_then_else_}
-use Rattle.unwinding.specs.Shape.{Shape}
 use Rattle.codes.specs.Code.{scan}
 use Rattle.machine.specs.declared.Regs.{Regs}
 use Rattle.machine.specs.as_coded.Run.{runAt}
-use Rattle.record.specs.Record.{fullShape, packedShape}
+use Rattle.record.specs.Record.{shapeAt}
 use Rattle.frame.specs.Frame.{Inputs, Caller, returned, uncovered, within, frameOf, unwound, checked}
 use Rattle.frame.specs.declared.Unwound.{Unwound}
 use Rattle.pdata.specs.declared.Checked.{Checked}
@@ -46,13 +45,7 @@ fromPlaced first k s g p = placedFrom first k s (p .handler) g (p .place) (p .in
 abbrev pub Answers : (first : Bool) → Checked → Inputs → Regs → Unwound → Type 0
 Answers first c t g r = c ≡ checked t → r ≡ unwound g (frameOf first t g)
 
--- by a record's shape, at an offset that it covers or not
-abbrev pub inShape : (first : Bool) → (stack : Lent) → (offset : ℕ) → Regs → Shape → Res Caller
-inShape first k o g s = if ltb o (s .span) then within k s o g else uncovered first g
-
--- by a full record at an RVA; by a packed word
-abbrev pub byFull : (first : Bool) → (xdata : Lent) → (at : ℕ) → (stack : Lent) → (offset : ℕ) → Regs → Res Caller
-byFull first x a k o g = fullShape x a >>= inShape first k o g
-
-abbrev pub byPacked : (first : Bool) → (word : ℕ) → (stack : Lent) → (offset : ℕ) → Regs → Res Caller
-byPacked first w k o g = packedShape w >>= inShape first k o g
+-- by word 1 of the record found, at an offset that its function covers or not; at that of the pc it is `byRecord` (`after-record` of
+-- proofs/Finding.antt)
+abbrev pub byWord : (first : Bool) → (xdata : Lent) → (word : ℕ) → (stack : Lent) → (offset : ℕ) → Regs → Res Caller
+byWord first x w k o g = shapeAt x w >>= λ s. if ltb o (s .span) then within k s o g else uncovered first g

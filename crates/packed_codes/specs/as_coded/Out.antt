@@ -5,16 +5,19 @@ use mathlib.Core.Option.{Option, none, some}
 use lib.ListN.{set, replicate}
 use lib.Dec.{ltb}
 use Rattle.words.specs.Answer.{if_then_else_}
-use Rattle.packed_codes.specs.declared.Out.{Out}
 use Rattle.packed_codes.specs.declared.Top.{Top}
 use Rattle.packed_codes.specs.declared.Top.the-variants.{Register, Other}
 
+-- the bytes as they are, and the place of the next
+abbrev pub Out : Type 0
+Out = List ℕ × ℕ
+
 abbrev pub blank : Out
-blank = record { bytes = replicate 16 0; len = 0 }
+blank = (replicate 16 0, 0)
 
 -- one more byte, while there is room
 unfoldable pub putOf : Out → ℕ → Out
-putOf o b = if ltb (o .len) 16 then record { bytes = set (o .bytes) (o .len) b; len = o .len + 1 } else o
+putOf o b = if ltb (o .1) 16 then (set (o .0) (o .1) b, o .1 + 1) else o
 
 unfoldable pub puts : Out → List ℕ → Out
 puts o [] = o

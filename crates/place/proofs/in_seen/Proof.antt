@@ -32,6 +32,6 @@ in-seen-spec =
     returns
     (λ c κs. search needs)
     returns-2
-    (λ c κs. search needs)
+    (λ c. search needs)
     returns-3
     returns-4)

@@ -1,26 +1,23 @@
 -- Where an offset stands in a record, as the code answers it. That a frame by it is a frame by the record's shape is a law
--- (`by-full`, `by-packed` of frame/proofs/Records.antt).
+-- (frame/proofs/Records.antt).
 use Prim.Native.Nat.{ℕ}
 use mathlib.Core.List.{List}
-use mathlib.Core.Bool.{Bool, true, false}
-use lib.ListN.{take, drop}
+use mathlib.Core.Bool.{true, false}
 use lib.Dec.{ltb}
 use Rattle.words.specs.Answer.{if_then_else_}
+use Rattle.lent.specs.Lent.{Lent}
 use Rattle.words.specs.Units.{codeBytes}
-use Rattle.words.specs.declared.CodeBytes.{CodeBytes}
 use Rattle.words.specs.declared.Place.the-variants.{Leaf}
 use Rattle.words.specs.declared.Refusal.{Refusal}
 use Rattle.words.specs.declared.Verdict.{Verdict}
 use Rattle.words.specs.declared.Verdict.the-variants.{Given, Refused}
-use Rattle.record.specs.as_coded.Plan.{scopesFrom}
+use Rattle.record.specs.as_coded.Plan.{scopesFrom, readOf, codesIn}
 use Rattle.record.specs.declared.Plan.{Plan}
-use Rattle.record.specs.declared.FullOf.{FullOf}
-use Rattle.record.specs.declared.PackedOf.{PackedOf}
+use Rattle.record.specs.declared.ReadOf.{ReadOf}
 use Rattle.place.specs.as_coded.Look.{spotOf}
 use Rattle.place.specs.declared.Spot.{Spot}
 use Rattle.place.specs.declared.Placed.{Placed}
-use Rattle.place.specs.declared.FullPlaced.{FullPlaced}
-use Rattle.place.specs.declared.PackedPlaced.{PackedPlaced}
+use Rattle.place.specs.declared.AnyPlaced.{AnyPlaced}
 
 abbrev pub refusedOf : Refusal → Placed
 refusedOf r = record { verdict = Refused r; covers = false; place = Leaf; index = codeBytes 0; handler = 0 }
@@ -43,11 +40,11 @@ abbrev pub placedBy : Verdict → Plan → (codes xdata : List ℕ) → (offset 
 placedBy Given p s x o = inPlan p s x o
 placedBy (Refused r) p s x o = refusedOf r
 
-abbrev pub codesOf : (xdata : List ℕ) → FullOf → List ℕ
-codesOf x f = take (f .codes .len) (drop (f .codes .start) x)
+-- with the record's code bytes
+abbrev pub placedIn : (xdata : List ℕ) → ReadOf → (offset : ℕ) → AnyPlaced
+placedIn x f o =
+    record { at = placedBy (f .verdict) (f .plan) (codesIn x f) x o; written = f .written; codes = f .codes; bytes = f .bytes }
 
-abbrev pub fullPlaced : (xdata : List ℕ) → FullOf → (offset : ℕ) → FullPlaced
-fullPlaced x f o = record { at = placedBy (f .verdict) (f .plan) (codesOf x f) x o; codes = f .codes }
-
-abbrev pub packedPlaced : PackedOf → (offset : ℕ) → PackedPlaced
-packedPlaced f o = record { at = placedBy (f .verdict) (f .plan) (f .bytes) (f .bytes) o; bytes = f .bytes }
+-- by word 1 of a .pdata record
+abbrev pub anyPlaced : Lent → (word offset : ℕ) → AnyPlaced
+anyPlaced x w o = placedIn (x .bytes) (readOf x w) o

@@ -10,17 +10,18 @@ use Rattle.programs.proofs.answer.Tie as tie
 
 slice-aggregate-put : tie.Need-slice-aggregate-put
 slice-aggregate-put c =
-    let l = c .before .before .make in
-    let n : length (l .last .1 .1 .0) ≡ 8192 = ap length (l .ensures .0 .1) ∙ overlay-length _ _ _ in
-    omega (arith, n, l .ensures .1, length-take (l .result) (l .last .1 .1 .0))
+    let l = c .before .before .before .make in
+    let start = c .before .before .before .before .before .before .before in
+    let n : length (l .last .1 .1 .0) ≡ length (start .args .out .now) = ap length (l .ensures .0 .1) ∙ overlay-length _ _ _ in
+    omega (arith, n, start .pre, l .ensures .1, length-take (l .result) (l .last .1 .1 .0))
 
 pub answer-spec : {M : Type 1} → statement M
 answer-spec =
     tie.close
     (tie.spec
-    (λ c. search needs)
     (λ c κs. search needs)
     (λ c. search needs)
     slice-aggregate-put
     (λ c κs. search needs)
+    (λ c. search needs)
     (λ c. search needs))

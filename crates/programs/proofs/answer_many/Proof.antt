@@ -1,17 +1,16 @@
--- The measure is the number of turns that are left; the buffer keeps its length.
+-- The measure is the number of turns that are left; both buffers keep their lengths.
 -- Assumes nothing.
 use mathlib.Core.Path.{_≡_}
 use lib.ListN.{length}
-use native.Mathlib.Omega.{arith}
 use borrow.Author.Needs.{needs}
 use Rattle.programs.proofs.answer_many.Statement.{statement}
 use Rattle.programs.proofs.answer_many.Tie as tie
 
 abbrev Inv-loop : tie.InvT-loop
-Inv-loop text file₀ turns₀ file turns = length file ≡ 65536
+Inv-loop text out₀ file₀ turns₀ out file turns = (length out ≡ 8192) × (length file ≡ 65536)
 
 abbrev μ-loop : tie.MeasureT-loop
-μ-loop text file₀ turns₀ file turns = turns
+μ-loop text out₀ file₀ turns₀ out file turns = turns
 
 pub answer-many-spec : {M : Type 1} → statement M
 answer-many-spec =
@@ -19,6 +18,7 @@ answer-many-spec =
     (tie.spec
     Inv-loop
     μ-loop
+    (λ c. search needs)
     (λ c. search needs)
     (λ c. search needs)
     (λ c κs. search needs)

@@ -12,13 +12,13 @@ returns : tie.Need-returns
 returns c =
     let a = c .before .before .before .before .before .before .before .args in
     c .full-of .ensures
-    ∙ ap fullAnswer (sym (after-given (a .rva) (a .xdata .now) (a .at) (a .h) (c .before .before .before .before .before .before .before .pre) (ap₂ (λ o n. resZero (a .xdata .now) (o + a .h .bytes) 0 n) (sym (c .before .before .before .before .before .offset .ensures .0)) (sym (c .before .before .before .scope-count .ensures)) ∙ sym (c .before .before .res-zero .ensures) ∙ c .before .if1 .taken)))
+    ∙ ap fullAnswer (sym (after-given (a .rva) (a .xdata .now) (a .at) (a .h) (c .before .before .before .before .before .before .before .pre .0) (ap₂ (λ o n. resZero (a .xdata .now) (o + a .h .bytes) 0 n) (sym (c .before .before .before .before .before .offset .ensures .0)) (sym (c .before .before .before .scope-count .ensures)) ∙ sym (c .before .before .res-zero .ensures) ∙ c .before .if1 .taken)))
 
 returns-2 : tie.Need-returns-2
 returns-2 c =
     let a = c .before .before .before .before .before .before .before .args in
     c .no-full .ensures
-    ∙ ap fullAnswer (sym (after-refused (a .rva) (a .xdata .now) (a .at) (a .h) (c .before .before .before .before .before .before .before .pre) (ap₂ (λ o n. resZero (a .xdata .now) (o + a .h .bytes) 0 n) (sym (c .before .before .before .before .before .offset .ensures .0)) (sym (c .before .before .before .scope-count .ensures)) ∙ sym (c .before .before .res-zero .ensures) ∙ c .before .if1 .left)))
+    ∙ ap fullAnswer (sym (after-refused (a .rva) (a .xdata .now) (a .at) (a .h) (c .before .before .before .before .before .before .before .pre .0) (ap₂ (λ o n. resZero (a .xdata .now) (o + a .h .bytes) 0 n) (sym (c .before .before .before .before .before .offset .ensures .0)) (sym (c .before .before .before .scope-count .ensures)) ∙ sym (c .before .before .res-zero .ensures) ∙ c .before .if1 .left)))
 
 pub after-head-spec : {M : Type 1} → statement M
 after-head-spec =

@@ -1,10 +1,10 @@
--- By the head's verdict; a head that is given stands at or above the .xdata's RVA. Assumes nothing.
+-- By the head's verdict; a head that is given stands in the .xdata with its scopes. Assumes nothing.
 use mathlib.Core.Path.{sym, ap, _∙_}
 use borrow.Author.Needs.{needs}
 use Rattle.lent.specs.Lent.{lent}
 use Rattle.record.specs.as_coded.Plan.{fullAnswer}
 use Rattle.xdata.specs.Xdata.{headAt}
-use Rattle.record.proofs.Shapes.{plan-given, plan-refused, head-above}
+use Rattle.record.proofs.Shapes.{plan-given, plan-refused, head-lent}
 use Rattle.xdata.proofs.Heads.{read-given, read-refused}
 use Rattle.record.proofs.full.Statement.{statement}
 use Rattle.record.proofs.full.Tie as tie
@@ -12,7 +12,7 @@ use Rattle.record.proofs.full.Tie as tie
 after-head-requires : tie.Need-after-head-requires
 after-head-requires c κs =
     let a = c .before .before .before .before .args in
-    head-above (lent (a .rva) (a .xdata .now)) (a .at) (c .before .before .head-at .result .head) (read-given (headAt (lent (a .rva) (a .xdata .now)) (a .at)) (c .before .before .head-at .result) (c .before .before .head-at .ensures) (c .enum-told .given .1))
+    head-lent (lent (a .rva) (a .xdata .now)) (a .at) (c .before .before .head-at .result .head) (read-given (headAt (lent (a .rva) (a .xdata .now)) (a .at)) (c .before .before .head-at .result) (c .before .before .head-at .ensures) (c .enum-told .given .1))
 
 returns : tie.Need-returns
 returns c =

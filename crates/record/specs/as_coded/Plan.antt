@@ -2,11 +2,12 @@
 -- for, beside the code bytes and the .xdata. That it is the record's shape is a law (`full-shape`, `packed-shape` of proofs/Shapes.antt).
 use Prim.Native.Nat.{ℕ, zero, suc, _+_, _-_, _*_}
 use mathlib.Core.List.{List, _∷_, []}
-use mathlib.Core.Bool.{false}
+use mathlib.Core.Bool.{Bool, true, false}
 use lib.ListN.{take, drop, replicate}
 use lib.Dec.{eqb}
 use Rattle.lent.specs.Lent.{Lent}
 use Rattle.lent.specs.Little.{word32}
+use Rattle.words.specs.Bits.{bits}
 use Rattle.words.specs.Units.{codeBytes, codeWordBytes}
 use Rattle.words.specs.declared.CodeBytes.{CodeBytes}
 use Rattle.words.specs.declared.Verdict.{Verdict}
@@ -27,11 +28,17 @@ use Rattle.record.specs.declared.Scopes.the-variants.{Ending, Listed}
 use Rattle.record.specs.declared.Plan.{Plan}
 use Rattle.record.specs.declared.FullOf.{FullOf}
 use Rattle.record.specs.declared.PackedOf.{PackedOf}
+use Rattle.record.specs.declared.ReadOf.{ReadOf}
 
 -- the scope of a number
 abbrev pub scopeIn : Scopes → (xdata : List ℕ) → ℕ → Scope
 scopeIn (Ending i) s k = lastScope i
 scopeIn (Listed at) s k = scopeOf (word32 s (at + 4 * k))
+
+-- where the words of n scopes end in the .xdata
+abbrev pub scopesEnd : Scopes → (n : ℕ) → ℕ
+scopesEnd (Ending i) n = 0
+scopesEnd (Listed at) n = at + 4 * n
 
 -- n scopes, the first of which has this number
 unfoldable pub scopesFrom : Scopes → (xdata : List ℕ) → (number n : ℕ) → List Scope
@@ -101,3 +108,30 @@ fullShapeBy f s = byVerdict (f .verdict) (shapeBy (f .plan) (take (f .codes .len
 
 abbrev pub packedShapeBy : PackedOf → (xdata : List ℕ) → Res Shape
 packedShapeBy f s = byVerdict (f .verdict) (shapeBy (f .plan) (f .bytes) s)
+
+-- a record of either kind: its code bytes are sixteen that were written, or a part of the .xdata
+abbrev pub ofFull : FullOf → ReadOf
+ofFull f = record { verdict = f .verdict; plan = f .plan; written = false; codes = f .codes; bytes = replicate 16 0 }
+
+abbrev pub ofPacked : PackedOf → ReadOf
+ofPacked f = record { verdict = f .verdict; plan = f .plan; written = true; codes = record { start = 0; len = 0 }; bytes = f .bytes }
+
+-- by word 1 of a .pdata record, which has Flag 0 for a full one
+abbrev pub readBy : (full : Bool) → Lent → (word : ℕ) → ReadOf
+readBy true x w = ofFull (fullAnswer (fullPlan x w))
+readBy false x w = ofPacked (packedAnswer (packedPlan w))
+
+abbrev pub readOf : Lent → (word : ℕ) → ReadOf
+readOf x w = readBy (eqb (bits 0 2 w) 0) x w
+
+-- its code bytes
+abbrev pub picked : (written : Bool) → (bytes xdata : List ℕ) → (start len : ℕ) → List ℕ
+picked true bytes s a n = bytes
+picked false bytes s a n = take n (drop a s)
+
+abbrev pub codesIn : (xdata : List ℕ) → ReadOf → List ℕ
+codesIn s f = picked (f .written) (f .bytes) s (f .codes .start) (f .codes .len)
+
+-- the shape that it stands for, or its refusal
+abbrev pub readShape : (xdata : List ℕ) → ReadOf → Res Shape
+readShape s f = byVerdict (f .verdict) (shapeBy (f .plan) (codesIn s f) s)

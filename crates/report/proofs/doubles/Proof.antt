@@ -20,27 +20,9 @@ abbrev μ-loop : tie.MeasureT-loop
 loop-holds : tie.Need-loop-holds Inv-loop μ-loop
 loop-holds c = (omega arith, omega arith, λ k h. absurd (omega arith))
 
-mul-word64 : tie.Need-mul-word64 Inv-loop μ-loop
-mul-word64 c = omega arith
-
-add-word64 : tie.Need-add-word64 Inv-loop μ-loop
-add-word64 c = omega arith
-
-mul-d : tie.Need-mul-d Inv-loop μ-loop
-mul-d c = omega arith
-
-array-write-d : tie.Need-array-write-d Inv-loop μ-loop
-array-write-d c = omega arith
-
-add-i : tie.Need-add-i Inv-loop μ-loop
-add-i c = omega arith
-
-loop-less : tie.Need-loop-less Inv-loop μ-loop
-loop-less c = omega arith
-
 loop-again : tie.Need-loop-again Inv-loop μ-loop
 loop-again c =
-    (omega arith, simp length-set (omega arith), stored (λ k. word64 (c .before .before .before .before .args .file .now) (96 + 8 * k)) (c .before .before .loop .d) (c .before .before .loop .i) (omega arith) (c .before .before .loop .inv .2) (c .word64 .ensures))
+    (omega arith, simp length-set (omega arith), stored (λ k. word64 (c .before .before .before .before .args .file .now) (96 + 8 * k)) (c .before .before .loop .d) (c .before .before .loop .i) (omega arith) (c .before .before .loop .inv .2) (c .word64-in .ensures))
 
 returns : tie.Need-returns Inv-loop μ-loop
 returns c =
@@ -54,12 +36,12 @@ doubles-spec =
     Inv-loop
     μ-loop
     loop-holds
-    mul-word64
-    add-word64
+    (λ c. search needs)
+    (λ c. search needs)
     (λ c κs. search needs)
-    mul-d
-    array-write-d
-    add-i
-    loop-less
+    (λ c. search needs)
+    (λ c. search needs)
+    (λ c. search needs)
+    (λ c. search needs)
     loop-again
     returns)

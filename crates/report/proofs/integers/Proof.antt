@@ -20,27 +20,9 @@ abbrev μ-loop : tie.MeasureT-loop
 loop-holds : tie.Need-loop-holds Inv-loop μ-loop
 loop-holds c = (omega arith, omega arith, λ k h. absurd (omega arith))
 
-mul-word32 : tie.Need-mul-word32 Inv-loop μ-loop
-mul-word32 c = omega arith
-
-add-word32 : tie.Need-add-word32 Inv-loop μ-loop
-add-word32 c = omega arith
-
-mul-r : tie.Need-mul-r Inv-loop μ-loop
-mul-r c = omega arith
-
-array-write-r : tie.Need-array-write-r Inv-loop μ-loop
-array-write-r c = omega arith
-
-add-i : tie.Need-add-i Inv-loop μ-loop
-add-i c = omega arith
-
-loop-less : tie.Need-loop-less Inv-loop μ-loop
-loop-less c = omega arith
-
 loop-again : tie.Need-loop-again Inv-loop μ-loop
 loop-again c =
-    (omega arith, simp length-set (omega arith), stored (λ k. word32 (c .before .before .before .before .args .file .now) (32 + 4 * k)) (c .before .before .loop .r) (c .before .before .loop .i) (omega arith) (c .before .before .loop .inv .2) (c .word32 .ensures))
+    (omega arith, simp length-set (omega arith), stored (λ k. word32 (c .before .before .before .before .args .file .now) (32 + 4 * k)) (c .before .before .loop .r) (c .before .before .loop .i) (omega arith) (c .before .before .loop .inv .2) (c .word32-in .ensures))
 
 returns : tie.Need-returns Inv-loop μ-loop
 returns c =
@@ -54,12 +36,12 @@ integers-spec =
     Inv-loop
     μ-loop
     loop-holds
-    mul-word32
-    add-word32
+    (λ c. search needs)
+    (λ c. search needs)
     (λ c κs. search needs)
-    mul-r
-    array-write-r
-    add-i
-    loop-less
+    (λ c. search needs)
+    (λ c. search needs)
+    (λ c. search needs)
+    (λ c. search needs)
     loop-again
     returns)

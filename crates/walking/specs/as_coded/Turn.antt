@@ -3,9 +3,7 @@ use Prim.Native.Nat.{ℕ}
 use Rattle.unwinding.specs.as_coded.Turn as Any
 use Rattle.machine.specs.declared.Regs.{Regs}
 use Rattle.pdata.specs.declared.Checked.{Checked}
-use Rattle.frame.specs.declared.Unwound.{Unwound}
-use Rattle.frame.specs.Frame.{Inputs, Caller, checked}
-use Rattle.walking.specs.declared.Stop.{Stop}
+use Rattle.frame.specs.Frame.{Inputs, checked}
 use Rattle.walking.specs.declared.State.{State}
 use Rattle.walking.specs.declared.Turn.{Turn}
 use Rattle.walking.specs.Walk.{arm, frames}
@@ -26,16 +24,6 @@ turned k r = record { on = r .on; stop = r .stop; frame = r .frame; next = state
 
 abbrev pub begun : Inputs → Regs → State
 begun t g = state (checked t) (Any.begun arm g)
-
-abbrev pub halted : State → Stop → Turn
-halted s x = turned (s .checked) (Any.halted arm (standing s) x)
-
--- the caller in a frame's answer
-abbrev pub callerOf : Unwound → Caller
-callerOf u = record { regs = u .regs; place = u .place; handler = u .handler; codes = u .codes }
-
-abbrev pub gone : State → Caller → Turn
-gone s c = turned (s .checked) (Any.gone arm (standing s) c)
 
 abbrev pub turnOf : Inputs → (room : ℕ) → State → Turn
 turnOf t room s = turned (s .checked) (Any.turnOf arm (frames t) room (standing s))

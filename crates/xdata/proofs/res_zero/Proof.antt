@@ -25,14 +25,14 @@ returns c =
     let a = c .before .before .before .before .before .before .args in
     let l = c .before .before .before .before .loop in
     let z = rw (c .before .bits .ensures .0) at (c .if1 .taken) in
-    sym (l .inv .1 ∙ res-stops (a .xdata .now) (a .at) (l .k) (a .n) _ (c .before .before .before .loop-test .taken) (c .before .before .word-after .ensures) z)
+    sym (l .inv .1 ∙ res-stops (a .xdata .now) (a .at) (l .k) (a .n) _ (c .before .before .before .loop-test .taken) (c .before .before .word32-in .ensures) z)
 
 loop-again : tie.Need-loop-again Inv-loop μ-loop
 loop-again c =
     let a = c .before .before .before .before .before .before .args in
     let l = c .before .before .before .before .loop in
     let z = rw (c .before .bits .ensures .0) at (c .if1 .left) in
-    (omega arith, l .inv .1 ∙ res-goes-on (a .xdata .now) (a .at) (l .k) (a .n) _ (c .before .before .before .loop-test .taken) (c .before .before .word-after .ensures) z)
+    (omega arith, l .inv .1 ∙ res-goes-on (a .xdata .now) (a .at) (l .k) (a .n) _ (c .before .before .before .loop-test .taken) (c .before .before .word32-in .ensures) z)
 
 returns-2 : tie.Need-returns-2 Inv-loop μ-loop
 returns-2 c =
@@ -47,6 +47,8 @@ res-zero-spec =
     Inv-loop
     μ-loop
     loop-holds
+    (λ c. search needs)
+    (λ c. search needs)
     (λ c κs. search needs)
     (λ c κs. search needs)
     returns

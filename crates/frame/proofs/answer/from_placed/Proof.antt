@@ -1,29 +1,35 @@
 -- By the verdict, and by whether the record covers the pc. Assumes nothing.
 use mathlib.Core.Path.{sym, ap, ap₂, _∙_}
 use Rattle.lent.specs.Lent.{lent}
-use Rattle.frame.specs.Frame.{unwound}
+use Rattle.machine.specs.as_coded.Answers.{regs}
 use Rattle.frame.specs.as_coded.FromPlace.{placedFrom}
 use borrow.Author.Needs.{needs}
 use Rattle.frame.proofs.answer.from_placed.Statement.{statement}
 use Rattle.frame.proofs.answer.from_placed.Tie as tie
-use Rattle.frame.proofs.answer.ran_from.Reads as ran-from-reads
-use Rattle.frame.proofs.answer.refused.Reads as refused-reads
-use Rattle.frame.proofs.answer.uncovered.Reads as uncovered-reads
 
 returns : tie.Need-returns
 returns c =
-    let a = c .before .before .before .before .before .before .args in
-    c .ran-from .ensures ∙ sym (ap (unwound (a .g)) (ap₂ (placedFrom (a .first) (lent (a .base) (a .stack .now)) (a .codes .now) (a .p .handler) (a .g) (a .p .place) (a .p .index)) (c .before .if1 .taken) (c .before .before .enum-told .given .1)))
+    let a = c .before .before .before .before .before .before .before .before .args in
+    λ pc.
+    let g = regs (a .r .now) (a .sp) (a .lr) pc (a .d .now) in
+    let from = placedFrom (a .first) (lent (a .base) (a .stack .now)) (a .codes .now) (a .p .handler) g (a .p .place) (a .p .index) in
+    c .ran-from .ensures pc ∙ sym (ap₂ from (c .before .before .before .if1 .taken) (c .before .before .before .before .enum-told .given .1))
 
 returns-2 : tie.Need-returns-2
 returns-2 c =
     let a = c .before .before .before .before .before .before .args in
-    c .refused .ensures ∙ sym (ap (unwound (a .g)) (ap (placedFrom (a .first) (lent (a .base) (a .stack .now)) (a .codes .now) (a .p .handler) (a .g) (a .p .place) (a .p .index) (a .p .covers)) (c .before .before .verdict .given .1)))
+    λ pc.
+    let g = regs (a .r .now) (a .sp) (a .lr) pc (a .d .now) in
+    let from = placedFrom (a .first) (lent (a .base) (a .stack .now)) (a .codes .now) (a .p .handler) g (a .p .place) (a .p .index) in
+    c .refused .ensures _ _ ∙ sym (ap (from (a .p .covers)) (c .before .before .verdict .given .1))
 
 returns-3 : tie.Need-returns-3
 returns-3 c =
     let a = c .before .before .before .before .before .before .args in
-    c .uncovered .ensures ∙ sym (ap (unwound (a .g)) (ap₂ (placedFrom (a .first) (lent (a .base) (a .stack .now)) (a .codes .now) (a .p .handler) (a .g) (a .p .place) (a .p .index)) (c .before .if1 .left) (c .before .before .enum-told .given .1)))
+    λ pc.
+    let g = regs (a .r .now) (a .sp) (a .lr) pc (a .d .now) in
+    let from = placedFrom (a .first) (lent (a .base) (a .stack .now)) (a .codes .now) (a .p .handler) g (a .p .place) (a .p .index) in
+    c .uncovered .ensures _ _ pc ∙ sym (ap₂ from (c .before .if1 .left) (c .before .before .enum-told .given .1))
 
 pub from-placed-spec : {M : Type 1} → statement M
 from-placed-spec =

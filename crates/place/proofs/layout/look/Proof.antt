@@ -1,54 +1,58 @@
--- The invariant: what is left to look at, from what was seen, comes to what the whole does from the start, and the list
--- scanned last is the one at its index. The measure is how many scopes are left.
+-- The invariant: what is left to look at, from what was seen, comes to what the whole does from the start, and the size
+-- kept is that of the list at its index. The measure is how many scopes are left.
 -- Assumes nothing.
-use Prim.Native.Nat.{_+_, _-_, _*_, _/_, _≤_, _<_}
-use mathlib.Core.Path.{_≡_, refl, sym, ap, _∙_}
+use Prim.Native.Nat.{_+_, _-_, _≤_, _<_}
+use mathlib.Core.Path.{_≡_, sym, ap, _∙_}
 use native.Mathlib.Omega.{arith}
 use mathlib.Core.List.{[]}
+use lib.ListN.{length}
 use borrow.Author.Needs.{needs}
+use Rattle.codes.specs.Code.{codesAt}
 use Rattle.record.specs.as_coded.Plan.{scopesFrom}
-use Rattle.codes.specs.Code.{scan}
-use Rattle.reader.specs.as_coded.Reading.{scanned}
-use Rattle.place.specs.as_coded.Look.{lookFrom}
-use Rattle.record.proofs.Shapes.{scopes-done}
+use Rattle.record.proofs.Shapes.{scopes-done, scopes-inside}
+use Rattle.place.specs.as_coded.Look.{measured, see, lookFrom}
+use Rattle.place.specs.declared.Measured.the-variants.{Bytes}
 use Rattle.place.proofs.Looking.{turn-made, turn-bad, look-none}
 use Rattle.place.proofs.layout.look.Statement.{statement}
 use Rattle.place.proofs.layout.look.Tie as tie
 use Rattle.place.proofs.layout.count_of.Reads as count-of-reads
-use Rattle.place.proofs.layout.rescan.Reads as rescan-reads
+use Rattle.place.proofs.layout.epilogue_span.Reads as epilogue-span-reads
+use Rattle.place.proofs.layout.measure_after.Reads as measure-after-reads
 use Rattle.place.proofs.layout.see.Reads as see-reads
 use Rattle.place.proofs.layout.span_of.Reads as span-of-reads
-use Rattle.place.proofs.layout.epilogue_span.Reads as epilogue-span-reads
+use Rattle.record.proofs.scope.Reads as scope-reads
 
 abbrev Inv-loop : tie.InvT-loop
-Inv-loop codes plan xdata o span n s₀ last₀ at₀ k₀ s last at k =
-    (k ≤ n) × (lookFrom codes span o s (scopesFrom (plan .scopes) xdata k (n - k)) ≡ lookFrom codes span o s₀ (scopesFrom (plan .scopes) xdata 0 n)) × (last ≡ scanned (scan codes at))
+Inv-loop t codes plan xdata o first span n s₀ size₀ at₀ k₀ s size at k =
+    (k ≤ n) × (lookFrom codes span o k s (scopesFrom (plan .scopes) xdata k (n - k)) ≡ lookFrom codes span o 0 s₀ (scopesFrom (plan .scopes) xdata 0 n)) × (Bytes size ≡ measured (codesAt codes at)) × (size < 8192)
 
 abbrev μ-loop : tie.MeasureT-loop
-μ-loop codes plan xdata o span n s₀ last₀ at₀ k₀ s last at k = n - k
+μ-loop t codes plan xdata o first span n s₀ size₀ at₀ k₀ s size at k = n - k
 
 loop-holds : tie.Need-loop-holds Inv-loop μ-loop
 loop-holds c =
-    let a = c .before .before .before .before .args in
+    let y = c .before .before .before .before in
+    let a = y .args in
     let z : c .count-of .result - 0 ≡ c .count-of .result = omega arith in
-    (omega arith, ap (λ k. lookFrom (a .codes .now) (c .before .span-of .result) (a .o) (a .seen) (scopesFrom (a .plan .scopes) (a .xdata .now) 0 k)) z, c .before .before .before .before .pre .1)
+    (omega arith, ap (λ k. lookFrom (a .codes .now) (c .before .span-of .result) (a .o) 0 (a .seen) (scopesFrom (a .plan .scopes) (a .xdata .now) 0 k)) z, y .pre .1, y .pre .2)
 
-rescan-requires : tie.Need-rescan-requires Inv-loop μ-loop
-rescan-requires c κs = c .before .before .before .loop .inv .2
+scope-requires : tie.Need-scope-requires Inv-loop μ-loop
+scope-requires c κs =
+    let l = c .before in
+    let n = l .before .count-of in
+    let z = l .before .before .before .before .before in
+    scopes-inside (z .args .plan .scopes) (l .loop .k) (n .result) (length (z .args .xdata .now)) (c .loop-test .taken) (rw (n .ensures .0) (z .pre .0 .2))
 
-epilogue-span-requires : tie.Need-epilogue-span-requires Inv-loop μ-loop
-epilogue-span-requires c κs =
-    let f = c .before .before .before .before .before .before in
-    let z = f .before .before .before in
-    ((z .args .codes .now, z .pre .0, c .rescan .ensures), f .span-of .ensures .1)
-
-see-requires : tie.Need-see-requires Inv-loop μ-loop
-see-requires c κs = rw (c .before .read .given .1) at (c .before .before .before .epilogue-span .ensures .1)
+measure-after-requires : tie.Need-measure-after-requires Inv-loop μ-loop
+measure-after-requires c κs =
+    let l = c .before .before .before in
+    let z = l .before .before .before .before .before in
+    (z .pre .0 .0, z .pre .0 .1, l .loop .inv .2, l .loop .inv .3)
 
 returns : tie.Need-returns Inv-loop μ-loop
 returns c =
     let y = c .before .before .before in
-    let b = y .before .before .before .before in
+    let b = y .before .before .before in
     let l = b .before in
     let h = l .before in
     let f = h .before in
@@ -56,10 +60,16 @@ returns c =
     let x = a .xdata .now in
     let q = a .plan .scopes in
     let n = h .count-of .result in
-    let span = f .span-of .result in
-    turn-bad (a .codes .now) x q span (a .o) (l .loop .s) (l .loop .k) n (b .loop-test .taken) (y .before .before .before .scope .result) (y .before .before .before .scope .ensures) _ (sym (y .epilogue-span .ensures .0 (a .codes .now) (y .before .rescan .ensures)) ∙ c .before .read2 .given .1) ∙ l .loop .inv .1
-    ∙ ap (λ z. lookFrom (a .codes .now) z (a .o) (a .seen) (scopesFrom q x 0 n)) (f .span-of .ensures .0)
-    ∙ ap (λ z. lookFrom (a .codes .now) (a .plan .span) (a .o) (a .seen) (scopesFrom q x 0 z)) (h .count-of .ensures .0)
+    let e = y .before .before .scope in
+    turn-bad (a .codes .now) x q (f .span-of .result) (a .o) (l .loop .s) (l .loop .k) n (b .loop-test .taken) (e .result) (e .ensures) _ (sym (y .measure-after .ensures .0) ∙ c .before .read2 .given .1) ∙ l .loop .inv .1
+    ∙ ap (λ z. lookFrom (a .codes .now) z (a .o) 0 (a .seen) (scopesFrom q x 0 n)) (f .span-of .ensures .0)
+    ∙ ap (λ z. lookFrom (a .codes .now) (a .plan .span) (a .o) 0 (a .seen) (scopesFrom q x 0 z)) (h .count-of .ensures .0)
+
+epilogue-span-requires : tie.Need-epilogue-span-requires Inv-loop μ-loop
+epilogue-span-requires c κs =
+    let y = c .before .before .before in
+    let f = y .before .before .before .before .before .before in
+    (f .span-of .ensures .1, rw (c .before .read .given .1) at (y .measure-after .ensures .1))
 
 add-k : tie.Need-add-k Inv-loop μ-loop
 add-k c = omega (arith, c .before .before .before .before .before .before .before .before .before .before .count-of .ensures .1)
@@ -69,8 +79,9 @@ loop-less c = omega arith
 
 loop-again : tie.Need-loop-again Inv-loop μ-loop
 loop-again c =
-    let y = c .before .before .before .before in
-    let b = y .before .before .before .before in
+    let r = c .before .before .before .read .given .1 in
+    let y = c .before .before .before .before .before in
+    let b = y .before .before .before in
     let l = b .before in
     let h = l .before in
     let f = h .before in
@@ -79,7 +90,9 @@ loop-again c =
     let q = a .plan .scopes in
     let n = h .count-of .result in
     let span = f .span-of .result in
-    (omega arith, ap (λ z. lookFrom (a .codes .now) span (a .o) z (scopesFrom q x (l .loop .k + 1) (n - (l .loop .k + 1)))) (c .see .ensures) ∙ turn-made (a .codes .now) x q span (a .o) (l .loop .s) (l .loop .k) n (b .loop-test .taken) (y .before .before .before .scope .result) (y .before .before .before .scope .ensures) _ (sym (y .epilogue-span .ensures .0 (a .codes .now) (y .before .rescan .ensures)) ∙ c .before .before .read .given .1) ∙ l .loop .inv .1, y .before .rescan .ensures)
+    let e = y .before .before .scope in
+    let k = l .loop .k in
+    (omega arith, ap (λ z. lookFrom (a .codes .now) span (a .o) (k + 1) z (scopesFrom q x (k + 1) (n - (k + 1)))) (c .see .ensures ∙ ap (see span (a .o) k (l .loop .s)) (c .before .epilogue-span .ensures .0)) ∙ turn-made (a .codes .now) x q span (a .o) (l .loop .s) k n (b .loop-test .taken) (e .result) (e .ensures) _ (sym (y .measure-after .ensures .0) ∙ r) ∙ l .loop .inv .1, sym r ∙ y .measure-after .ensures .0, rw r at (y .measure-after .ensures .1))
 
 returns-2 : tie.Need-returns-2 Inv-loop μ-loop
 returns-2 c =
@@ -91,10 +104,11 @@ returns-2 c =
     let q = a .plan .scopes in
     let n = h .count-of .result in
     let span = f .span-of .result in
-    let e : scopesFrom q x (l .loop .k) (n - l .loop .k) ≡ [] = scopes-done q x (l .loop .k) n (omega arith) in
-    sym (ap (lookFrom (a .codes .now) span (a .o) (l .loop .s)) e ∙ look-none (a .codes .now) span (a .o) (l .loop .s)) ∙ l .loop .inv .1
-    ∙ ap (λ z. lookFrom (a .codes .now) z (a .o) (a .seen) (scopesFrom q x 0 n)) (f .span-of .ensures .0)
-    ∙ ap (λ z. lookFrom (a .codes .now) (a .plan .span) (a .o) (a .seen) (scopesFrom q x 0 z)) (h .count-of .ensures .0)
+    let k = l .loop .k in
+    let e : scopesFrom q x k (n - k) ≡ [] = scopes-done q x k n (omega arith) in
+    sym (ap (lookFrom (a .codes .now) span (a .o) k (l .loop .s)) e ∙ look-none (a .codes .now) span (a .o) k (l .loop .s)) ∙ l .loop .inv .1
+    ∙ ap (λ z. lookFrom (a .codes .now) z (a .o) 0 (a .seen) (scopesFrom q x 0 n)) (f .span-of .ensures .0)
+    ∙ ap (λ z. lookFrom (a .codes .now) (a .plan .span) (a .o) 0 (a .seen) (scopesFrom q x 0 z)) (h .count-of .ensures .0)
 
 pub look-spec : {M : Type 1} → statement M
 look-spec =
@@ -105,13 +119,13 @@ look-spec =
     (λ c κs. search needs)
     (λ c κs. search needs)
     loop-holds
-    (λ c κs. search needs)
-    rescan-requires
-    epilogue-span-requires
+    scope-requires
+    measure-after-requires
     (λ c. search needs)
-    see-requires
     (λ c. search needs)
     returns
+    epilogue-span-requires
+    (λ c κs. c .epilogue-span .ensures .1)
     add-k
     loop-less
     loop-again
