@@ -1,5 +1,6 @@
-//! The reports that `bench/run` times. `inputs DIR` writes each into a file of its own, with its length before it, as `walk_many` takes
-//! them. Every walk ends by itself in a caller's pc of 0; the same reports are made every time.
+//! The inputs that `bench/run` times. `inputs DIR REAL [NAME..]` writes each, or those named, into a file of its own, as `walk_many` takes
+//! them: reports, each after its length. `real` and `real-eighth` are made of the file REAL. The others have one report each, whose walk
+//! ends by itself in a caller's pc of 0; the same are made every time.
 
 use std::{env, fs, io, path::Path};
 
@@ -129,13 +130,33 @@ fn with_scopes(count: u32, codes: &[u8], indices: u32, words: u32) -> Module {
     module
 }
 
+/// Every eighth of the reports that follow one another, from the first.
+fn every_eighth(reports: &[u8]) -> Vec<u8> {
+    let (mut kept, mut number, mut at) = (Vec::new(), 0, 0);
+    while at < reports.len() {
+        let length = u32::from_le_bytes(reports[at..at + 4].try_into().expect("4 bytes"));
+        let end = at + 4 + length as usize;
+        if number % 8 == 0 {
+            kept.extend(&reports[at..end]);
+        }
+        (number, at) = (number + 1, end);
+    }
+    kept
+}
+
 fn main() -> io::Result<()> {
-    let folder = env::args().nth(1).expect("usage: inputs DIR");
-    let write = |name: String, report: Vec<u8>| {
-        let length = report.len() as u32;
-        let framed = [length.to_le_bytes().to_vec(), report].concat();
-        fs::write(Path::new(&folder).join(name + ".bin"), framed)
+    let arguments: Vec<String> = env::args().skip(1).collect();
+    let [folder, real, names @ ..] = arguments.as_slice() else { panic!("usage: inputs DIR REAL [NAME..]") };
+    let save = |name: String, reports: Vec<u8>| {
+        if !names.is_empty() && !names.contains(&name) {
+            return Ok(());
+        }
+        fs::write(Path::new(folder).join(name + ".bin"), reports)
     };
+    let write = |name: String, report: Vec<u8>| save(name, [(report.len() as u32).to_le_bytes().to_vec(), report].concat());
+    let real = fs::read(real)?;
+    save("real-eighth".to_string(), every_eighth(&real))?;
+    save("real".to_string(), real)?;
     // The walk over one chain, cut after so many frames; the words above stay.
     let rng = &mut Rng(SEED);
     let module = mixed(rng);

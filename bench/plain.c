@@ -219,14 +219,16 @@ static int packed_record(u32 w, struct record *rec) {
 
 // The place of an offset and the index of the first code that runs there; or 6, 7, 9, 10.
 static int place_of(const struct record *rec, u32 offset, enum place *place, u32 *index) {
-    u32 list, end, hit = 0, hit_start = 0, hit_index = 0, condition = 14;
+    u32 list, end, scanned = 0, hit = 0, hit_start = 0, hit_index = 0, condition = 14;
     if (scan(rec, 0, &list, &end)) return 6;
     u32 prologue = rec->fragment ? 0 : list;
     // An epilogue must start above the one before it and, unless it is empty, where nothing before it reaches.
     u32 floor = 0, reach = prologue, fits = prologue <= rec->span;
     for (u32 k = 0; k < rec->epilogues; k++) {
         u32 scope = rec->at_end ? 14 << 20 : word(rec->scopes + 4 * k), at = rec->at_end ? rec->index : scope >> 24;
-        if (scan(rec, at, &list, &end)) return 6;
+        // Epilogues often share their codes: they are scanned anew only where the index changes.
+        if (at != scanned && scan(rec, at, &list, &end)) return 6;
+        scanned = at;
         u32 bytes = list + end, start = 2 * (scope & 0x3FFFF);
         if (rec->at_end && bytes <= rec->span) start = rec->span - bytes;
         if (start < floor || start + bytes > rec->span || (bytes && start < reach)) fits = 0;
