@@ -130,6 +130,26 @@ fn with_scopes(count: u32, codes: &[u8], indices: u32, words: u32) -> Module {
     module
 }
 
+/// Two functions that push LR, with 64 guarded regions each: in one they are nested, the innermost first, as compilers write them; in the
+/// other they stand side by side.
+fn with_regions() -> Module {
+    let mut module = Module::new();
+    for nested in [true, false] {
+        let at = XDATA + module.xdata.len() as u32;
+        module.add(at, 0);
+        let start = module.functions[module.functions.len() - 1].start;
+        // 256 bytes, X=1, E=1, one word of codes; the handler; the count.
+        put(&mut module.xdata, &[128 | 1 << 20 | 1 << 21 | 1 << 28]);
+        module.xdata.extend([0xed, 0, 0xff, 0]);
+        put(&mut module.xdata, &[0x0030_0001, 64]);
+        for number in 0..64 {
+            let (begin, end) = if nested { (63 - number, 193 + number) } else { (4 * number, 4 * number + 4) };
+            put(&mut module.xdata, &[start + begin, start + end, 0x0030_0101, start + end]);
+        }
+    }
+    module
+}
+
 /// Every eighth of the reports that follow one another, from the first.
 fn every_eighth(reports: &[u8]) -> Vec<u8> {
     let (mut kept, mut number, mut at) = (Vec::new(), 0, 0);
@@ -177,6 +197,9 @@ fn main() -> io::Result<()> {
         let chain: Vec<usize> = (0..8).map(|_| rng.below(records) as usize).collect();
         write(format!("records-{records}"), module.report(rng, &chain))?;
     }
+    // As many frames as there may be, in turn of a function with nested regions and of one with as many side by side.
+    let chain: Vec<usize> = (0..256).map(|number| number % 2).collect();
+    write("regions-64".to_string(), with_regions().report(rng, &chain))?;
     // One frame in the body of a function with so many epilogues: add sp, pop {r4, lr}.
     for scopes in SCOPES {
         write(format!("scopes-{scopes}"), with_scopes(scopes, &[2, 0xd4, 0xff, 0], 1, 3).report(rng, &[0]))?;

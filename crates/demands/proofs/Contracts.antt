@@ -1,7 +1,7 @@
 -- The code's own contracts, as whoever calls it learns them: each public operation asks nothing, its result is our reader's answer, and so
 -- any two results that a contract allows coincide.
 -- Assumes nothing.
-use Prim.Native.Nat.{ℕ}
+use Prim.Native.Nat.{ℕ, _+_, _-_, _^_, min}
 use mathlib.Core.Path.{_≡_, refl, sym, ap, _∙_, subst}
 use mathlib.Core.List.{List}
 use lib.ListN.{length}
@@ -43,6 +43,12 @@ use Rattle.listing.proofs.list_report.Kinds as List·kinds
 use Rattle.listing.proofs.list_report.Reads as Listed
 use Rattle.caller_text.proofs.show_caller.Kinds as Show·kinds
 use Rattle.caller_text.proofs.show_caller.Reads as Show
+use Rattle.regions.proofs.table.Kinds as Table·kinds
+use Rattle.regions.proofs.table.Reads as Table
+use Rattle.region_text.proofs.put_regions.Kinds as Lines·kinds
+use Rattle.region_text.proofs.put_regions.Reads as Lines
+use Rattle.outlining.proofs.outline_report.Kinds as Outline·kinds
+use Rattle.outlining.proofs.outline_report.Reads as Outline
 use Rattle.exports.proofs.leafbobbin_walk.Kinds as CWalk·kinds
 use Rattle.exports.proofs.leafbobbin_walk.Reads as CWalk
 use Rattle.exports.proofs.leafbobbin_caller.Kinds as CCaller·kinds
@@ -55,6 +61,9 @@ use Rattle.exports.proofs.leafbobbin_word.Kinds as CWord·kinds
 use Rattle.exports.proofs.leafbobbin_word.Reads as CWord
 use Rattle.exports.proofs.leafbobbin_codes.Kinds as CCodes·kinds
 use Rattle.exports.proofs.leafbobbin_codes.Reads as CCodes
+use Rattle.regions.specs.as_coded.Table.{tableOf, listedIn}
+use Rattle.regions.proofs.Tables.{table-listed}
+use Rattle.demands.specs.Regions.{oursOfRegions}
 use Rattle.exports.specs.Numbers.{foundNumbers, foundRefusal, fieldsIn, lengths}
 use Rattle.forward.specs.State.{State}
 use Rattle.forward.specs.Demand.{Asked, Answer, Demand3}
@@ -168,7 +177,45 @@ show-gives κs a z e p = p .0
 pub show-unique : Unique show
 show-unique = unique show _ _ show-gives
 
--- ---- the same two, for C
+-- ---- those of order 1: a record's regions, their text, the outline of a report
+abbrev pub regions : Contract
+regions = record { lifetimes = 1; params = Table·kinds.ps; result = Table·kinds.r; asks = Table.Asked; free = λ κs a. tt; allows = Table.Learnt; Left = Unit {0}; left = λ κs e. tt }
+
+pub regions-gives : Gives regions (λ κs a. tableOf (lent (a .0) (now (a .1 .0))) (a .1 .1 .0)) (λ κs a. tt)
+regions-gives κs a z e p = (p .0, refl)
+
+pub regions-unique : Unique regions
+regions-unique = unique regions _ _ regions-gives
+
+-- the table given lists the regions that our reader lists
+pub regions-list :
+    (κs : Lfts 1) (a : Dens κs Table·kinds.ps) (z : resT Table·kinds.r κs .Denot) (e : AtExit (endedOf 1 Table·kinds.ps Table·kinds.r) κs) → regions .allows κs a z e
+    → listedIn (now (a .1 .0)) z ≡ oursOfRegions .regions (lent (a .0) (now (a .1 .0))) (a .1 .1 .0)
+regions-list κs a z e p =
+    ap (listedIn (now (a .1 .0))) (p .0) ∙ table-listed (lent (a .0) (now (a .1 .0))) (a .1 .1 .0)
+
+abbrev lines-text : (κs : Lfts 2) → Dens κs Lines·kinds.ps → List ℕ
+lines-text κs a = oursOfRegions .lines (lent (a .1 .1 .0) (now (a .1 .1 .1 .0))) (a .1 .1 .1 .1 .0) (a .1 .1 .1 .1 .1 .0)
+
+abbrev pub lines : Contract
+lines = record { lifetimes = 2; params = Lines·kinds.ps; result = Lines·kinds.r; asks = Lines.Asked; free = λ κs a. tt; allows = Lines.Learnt; Left = List ℕ; left = λ κs e. now (e .0) }
+
+pub lines-gives : Gives lines (λ κs a. min (a .1 .0 + length (lines-text κs a)) (2 ^ 64 - 1)) (λ κs a. overlay (now (a .0)) (a .1 .0) (lines-text κs a))
+lines-gives κs a z e p = (p .place, p .bytes)
+
+pub lines-unique : Unique lines
+lines-unique = unique lines _ _ lines-gives
+
+abbrev pub outline : Contract
+outline = record { lifetimes = 2; params = Outline·kinds.ps; result = Outline·kinds.r; asks = Outline.Asked; free = λ κs a. tt; allows = Outline.Learnt; Left = List ℕ; left = λ κs e. now (e .1 .0) }
+
+pub outline-gives : Gives outline (λ κs a. length (oursOfRegions .outline (now (a .0)))) (λ κs a. overlay (now (a .1 .0)) 0 (oursOfRegions .outline (now (a .0))))
+outline-gives κs a z e p = p .0
+
+pub outline-unique : Unique outline
+outline-unique = unique outline _ _ outline-gives
+
+-- ---- the two texts of a report, for C
 abbrev pub c-walk : Contract
 c-walk = record { lifetimes = 2; params = CWalk·kinds.ps; result = CWalk·kinds.r; asks = CWalk.Asked; free = λ κs a. tt; allows = CWalk.Learnt; Left = List ℕ; left = λ κs e. now (e .1 .0) }
 

@@ -11,3 +11,5 @@ pub mod Walks
 pub mod OneWalk
 pub mod Packing
 pub mod Contracts
+pub mod Regions
+pub mod RegionsWider

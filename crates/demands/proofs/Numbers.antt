@@ -1,15 +1,16 @@
 -- Which refusal numbers an operation can give: finding 1 to 3; a size 1, 4 and 5; the packed writers 4; one frame 1 to 11; 12 and 13 only a
--- walk's later frames.
+-- walk's later frames. And that no two refusals share a number.
 -- Assumes nothing.
 use Prim.Native.Nat.{ℕ, zero, suc, _+_, _-_, _%_, _≤_}
-use mathlib.Core.Path.{_≡_, refl, ap, subst}
+use mathlib.Core.Path.{_≡_, refl, sym, ap, _∙_, subst}
 use mathlib.Core.Logic.{_⊎_, inl, inr}
 use mathlib.Core.List.{List, [], _∷_}
 use mathlib.Core.Bool.{Bool, true, false, _&&_, _||_, not}
 use mathlib.Core.Option.{Option, none, some}
-use lib.ListN.{length, replicate}
+use lib.ListN.{length, replicate, getD}
 use lib.Dec.{leb, ltb, eqb}
 use native.Mathlib.Omega.{arith}
+use borrow.Author.Tests.{ne-eqb}
 use Rattle.words.specs.Bits.{bits, bit, even}
 use Rattle.words.specs.Units.{codeBytes}
 use Rattle.lent.specs.Lent.{Lent, holds, wordAt}
@@ -48,6 +49,9 @@ use Rattle.xdata.specs.Scopes.{scopesAt}
 use Rattle.record.specs.Record.{fullShape, packedShape, shapeOf}
 use Rattle.frame.specs.Frame.{Inputs, fitStack, uncovered, within, byRecord, frameOf}
 use Rattle.walking.specs.Walk.{nextFrame}
+use Rattle.regions.specs.declared.RegionRefusal.{RegionRefusal}
+use Rattle.regions.specs.declared.RegionRefusal.the-variants.{Record, TableOutside, Crossed}
+use Rattle.regions.specs.Table.{regionNumber}
 
 pub numbered : (r : Refusal) → 1 ≤ number r
 numbered UnfitInput = omega arith
@@ -109,7 +113,7 @@ module _ (P : ℕ → Type 0) where
       (either-way (eqb (bits 23 9 (wordAt x a)) 0) (longHead x a (wordAt x a)) (ok (shortHead (wordAt x a))) (only-long p4 p5 x a (wordAt x a)) (given (shortHead (wordAt x a))))
       (λ h. needed (holds x a (recordBytes h)) OutsideXdata _ p5 (given h))))
 
-  only-size : P 1 → P 4 → P 5 → (x : Lent) (a : ℕ) → Only P (xdataSize x a)
+  pub only-size : P 1 → P 4 → P 5 → (x : Lent) (a : ℕ) → Only P (xdataSize x a)
   unfolding xdataSize
   only-size p1 p4 p5 x a = needed (fitXdata x) UnfitInput _ p1 (bound (headAt x (a - a % 4)) _ (only-head p4 p5 x (a - a % 4)) (λ h. given _))
 
@@ -268,3 +272,81 @@ codes-number w r = go (allowed (fields w))
     go : (t : Bool) → NoCodes r (codesAnswer (need t Reserved >> ok (written (fields w))))
     go true e = absurd (let z : _≡_ {A = ℕ} 0 1 = cc in omega arith)
     go false e = let z : r ≡ Reserved = cc in (ap number z, refl, refl, refl)
+
+-- ---- no two refusals share a number
+-- a refusal, but for what it holds
+abbrev pub kind : Refusal → Refusal
+kind UnfitInput = UnfitInput
+kind PcBelowBase = PcBelowBase
+kind StartsNotAscending = StartsNotAscending
+kind Reserved = Reserved
+kind OutsideXdata = OutsideXdata
+kind (BadCodes i) = BadCodes (codeBytes 0)
+kind BadLayout = BadLayout
+kind BadStack = BadStack
+kind InsideInstruction = InsideInstruction
+kind Conditional = Conditional
+kind SpFell = SpFell
+kind NoRecord = NoRecord
+kind SpSame = SpSame
+kind UnfitReport = UnfitReport
+
+-- the one of a number
+abbrev named : ℕ → Refusal
+named n =
+    getD (UnfitInput ∷ PcBelowBase ∷ StartsNotAscending ∷ Reserved ∷ OutsideXdata ∷ BadCodes (codeBytes 0) ∷ BadLayout ∷ BadStack ∷ InsideInstruction ∷ Conditional ∷ SpFell ∷ NoRecord ∷ SpSame ∷ UnfitReport ∷ []) (n - 1) UnfitReport
+
+named-kind : (r : Refusal) → named (number r) ≡ kind r
+named-kind UnfitInput = refl
+named-kind PcBelowBase = refl
+named-kind StartsNotAscending = refl
+named-kind Reserved = refl
+named-kind OutsideXdata = refl
+named-kind (BadCodes i) = refl
+named-kind BadLayout = refl
+named-kind BadStack = refl
+named-kind InsideInstruction = refl
+named-kind Conditional = refl
+named-kind SpFell = refl
+named-kind NoRecord = refl
+named-kind SpSame = refl
+named-kind UnfitReport = refl
+
+pub numbers-differ : (r s : Refusal) → number r ≡ number s → kind r ≡ kind s
+numbers-differ r s e = sym (named-kind r) ∙ ap named e ∙ named-kind s
+
+-- with those of order 1
+abbrev pub regionKind : RegionRefusal → RegionRefusal
+regionKind (Record r) = Record (kind r)
+regionKind TableOutside = TableOutside
+regionKind Crossed = Crossed
+
+abbrev regionNamed : ℕ → RegionRefusal
+regionNamed n = if eqb n 15 then TableOutside else (if eqb n 16 then Crossed else Record (named n))
+
+-- every other number is below them
+below-15 : (r : Refusal) → number r ≤ 14
+below-15 UnfitInput = omega arith
+below-15 PcBelowBase = omega arith
+below-15 StartsNotAscending = omega arith
+below-15 Reserved = omega arith
+below-15 OutsideXdata = omega arith
+below-15 (BadCodes i) = omega arith
+below-15 BadLayout = omega arith
+below-15 BadStack = omega arith
+below-15 InsideInstruction = omega arith
+below-15 Conditional = omega arith
+below-15 SpFell = omega arith
+below-15 NoRecord = omega arith
+below-15 SpSame = omega arith
+below-15 UnfitReport = omega arith
+
+regionNamed-kind : (r : RegionRefusal) → regionNamed (regionNumber r) ≡ regionKind r
+regionNamed-kind (Record r) =
+    let h = below-15 r in
+    rw (ne-eqb (number r) 15 (λ e. omega (arith, h, e)), ne-eqb (number r) 16 (λ e. omega (arith, h, e))) (ap Record (named-kind r))
+regionNamed-kind TableOutside = refl
+regionNamed-kind Crossed = refl
+
+pub region-numbers-differ : (r s : RegionRefusal) → regionNumber r ≡ regionNumber s → regionKind r ≡ regionKind s
+region-numbers-differ r s e = sym (regionNamed-kind r) ∙ ap regionNamed e ∙ regionNamed-kind s

@@ -7,3 +7,4 @@ pub mod PackedLaws
 pub mod WalkLaws
 pub mod Demand2
 pub mod Shams
+pub mod Regions

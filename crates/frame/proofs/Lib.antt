@@ -4,3 +4,4 @@ pub mod Within
 pub mod Records
 pub mod Finding
 pub mod Bounds
+pub mod Inner

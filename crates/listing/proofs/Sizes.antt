@@ -30,12 +30,12 @@ place-length Epilogue = omega arith
 pub refused-length : (r : Refusal) → length (refusedText r) ≤ 29
 refused-length r = simp length-append (omega (arith, decimal-limit (number r)))
 
-stop-length : (s : Stop) → length (stopText s) ≤ 41
+pub stop-length : (s : Stop) → length (stopText s) ≤ 41
 stop-length End = omega arith
 stop-length Full = omega arith
 stop-length (Refused r pc) = simp length-append (omega (arith, decimal-limit (number r), hex8-length pc))
 
-frame-length : (n : ℕ) (f : Frame) → n < 1000 → length (frameLine n f) ≤ 31
+pub frame-length : (n : ℕ) (f : Frame) → n < 1000 → length (frameLine n f) ≤ 31
 frame-length n f h =
     simp length-append (omega (arith, decimal-small n h, hex8-length (f .pc), hex8-length (f .sp), place-length (f .place)))
 

@@ -93,7 +93,7 @@ fn put_last(out: &mut [u8], at: usize, stop: Stop, frames: usize, codes: usize) 
 }
 
 // What a turn of the walk prints: the frame's line, or the last one.
-fn put_turn(out: &mut [u8], at: usize, s: Standing, x: Going) -> usize
+pub fn put_turn(out: &mut [u8], at: usize, s: Standing, x: Going) -> usize
     ensures { λ r. ⌜ Laid (now (out .entry)) at (turnText s x) r (now (out .exit)) ⌝ }
 {
     let stop = x.stop;

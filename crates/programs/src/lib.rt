@@ -5,12 +5,21 @@ ghost use Prim.Native.Nat.{_≤_};
 ghost use lib.ListN.{length};
 ghost use Rattle.text.specs.Overlay.{overlay};
 ghost use Rattle.programs.specs.Texts.{textOf};
+ghost use Rattle.io.specs.Counts.{Counts};
+ghost use Rattle.programs.specs.Inputs.{Fits};
 use caller_text::show_caller;
 use libc::STDERR_FILENO;
 use libc::STDIN_FILENO;
 use libc::STDOUT_FILENO;
 use listing::list_report;
 use streams::Item;
+
+// What comes next on standard input: a report of so many bytes, at the buffer's start; one inside which the input ended; or nothing more.
+pub enum Input {
+    Report(usize),
+    Cut,
+    End,
+}
 
 // Which text: the listing of the walk, or the caller of the one frame.
 pub enum Text {
@@ -37,7 +46,7 @@ fn tell(failed: bool) {
 }
 
 // Writes to standard output, or says on standard error that it failed; whether all was taken.
-fn put(bytes: &[u8]) -> bool {
+pub fn put(bytes: &[u8]) -> bool {
     if io::write_all(STDOUT_FILENO, bytes) {
         return true;
     }
@@ -64,22 +73,49 @@ fn answer_line(text: Text, file: &[u8], out: &mut [u8]) -> bool
     }
 }
 
-// Answers the next report, and says whether to go on. One that did not come whole is answered as a report of no bytes, which is unfit.
-fn answer_next(text: Text, file: &mut [u8], out: &mut [u8]) -> bool
-    requires { ⌜ 8192 ≤ length (now out) ⌝ }
+// The next report. One that is too long is none of its bytes: what is no whole report is unfit, and so is that of no bytes.
+pub fn take(file: &mut [u8]) -> Input
+    ensures { λ i. ⌜ Fits i (now (file .exit)) ⌝ }
 {
     match streams::next(STDIN_FILENO, file) {
-        Item::Report(n) => answer_line(text, &file[..n], out),
-        Item::TooLong => answer_line(text, b"", out),
+        Item::Report(n) => Input::Report(n),
+        Item::TooLong => Input::Report(0),
         Item::Cut(failed) => {
             tell(failed);
-            answer_line(text, b"", out);
-            false
+            Input::Cut
         }
         Item::End(failed) => {
             tell(failed);
+            Input::End
+        }
+    }
+}
+
+// How many bytes there are up to the input's end, of no more than the buffer holds; none of them count if a read fails.
+pub fn take_all(file: &mut [u8]) -> usize
+    ensures { λ n. ⌜ Counts n (now (file .exit)) ⌝ }
+{
+    let filled = streams::fill(STDIN_FILENO, file);
+    let count = filled.count;
+    let failed = filled.failed;
+    tell(failed);
+    if failed {
+        return 0;
+    }
+    count
+}
+
+// Answers the next report, and says whether to go on.
+fn answer_next(text: Text, file: &mut [u8], out: &mut [u8]) -> bool
+    requires { ⌜ 8192 ≤ length (now out) ⌝ }
+{
+    match take(file) {
+        Input::Report(n) => answer_line(text, &file[..n], out),
+        Input::Cut => {
+            answer_line(text, b"", out);
             false
         }
+        Input::End => false,
     }
 }
 
@@ -87,15 +123,8 @@ fn answer_next(text: Text, file: &mut [u8], out: &mut [u8]) -> bool
 pub fn answer_one(text: Text) {
     let mut out = [0u8; 8192];
     let mut file = [0u8; 65537];
-    let filled = streams::fill(STDIN_FILENO, &mut file);
-    let count = filled.count;
-    let failed = filled.failed;
-    tell(failed);
-    if failed {
-        answer(text, b"", &mut out);
-    } else {
-        answer(text, &file[..count], &mut out);
-    }
+    let n = take_all(&mut file);
+    answer(text, &file[..n], &mut out);
 }
 
 // Reports one after the other. A proved loop has to end, and nothing says that the input does: it counts turns that no run uses up.

@@ -52,7 +52,7 @@ module _ (W : Walker) (frameOf : FrameOf W) where
   restOf left s = if s .end then stopped W ended else walkFrom W frameOf left (eqb (s .frames) 0) (s .at)
 
   -- nothing, where a turn does not go on
-  over : {room : ℕ} {s : Standing W} {r : Turn W} (left : ℕ) → Turns W frameOf room s r → s .frames + left ≡ room → r .on ≡ false → restOf left s ≡ stopped W (r .stop)
+  pub over : {room : ℕ} {s : Standing W} {r : Turn W} (left : ℕ) → Turns W frameOf room s r → s .frames + left ≡ room → r .on ≡ false → restOf left s ≡ stopped W (r .stop)
   unfolding walkFrom
   over left (at-end p) k o = rw p
   over zero (at-full p f) k o = rw p
@@ -62,20 +62,20 @@ module _ (W : Walker) (frameOf : FrameOf W) where
   over left (goes c p f w) k o = absurd (let z : _≡_ {A = ℕ} 0 1 = cc in omega arith)
 
   -- the frame, and then what is left from the next state
-  goes-on : (left : ℕ) (s : Standing W) (c : Caller) → s .end ≡ false → nextFrame W frameOf (eqb (s .frames) 0) (s .at) ≡ ok c
+  pub goes-on : (left : ℕ) (s : Standing W) (c : Caller) → s .end ≡ false → nextFrame W frameOf (eqb (s .frames) 0) (s .at) ≡ ok c
       → restOf (suc left) s ≡ listed W (s .at) c (restOf left (gone W s c .next))
   unfolding walkFrom
   goes-on left s c p w = rw (p, w, ne-eqb (s .frames + 1) 0 (λ h. omega arith))
 
   -- a turn that goes on met neither the end nor a full list nor a refusal
-  record Onward (room : ℕ) (s : Standing W) (r : Turn W) : Type 0 where
-    caller : Caller
-    unwinds : nextFrame W frameOf (eqb (s .frames) 0) (s .at) ≡ ok caller
-    going : s .end ≡ false
-    within : s .frames < room
-    is : r ≡ gone W s caller
+  pub record Onward (room : ℕ) (s : Standing W) (r : Turn W) : Type 0 where
+    pub caller : Caller
+    pub unwinds : nextFrame W frameOf (eqb (s .frames) 0) (s .at) ≡ ok caller
+    pub going : s .end ≡ false
+    pub within : s .frames < room
+    pub is : r ≡ gone W s caller
 
-  onward : {room : ℕ} {s : Standing W} {r : Turn W} → Turns W frameOf room s r → r .on ≡ true → Onward room s r
+  pub onward : {room : ℕ} {s : Standing W} {r : Turn W} → Turns W frameOf room s r → r .on ≡ true → Onward room s r
   onward (at-end p) o = absurd (let z : _≡_ {A = ℕ} 0 1 = cc in omega arith)
   onward (at-full p f) o = absurd (let z : _≡_ {A = ℕ} 0 1 = cc in omega arith)
   onward (at-refusal r p f w) o = absurd (let z : _≡_ {A = ℕ} 0 1 = cc in omega arith)

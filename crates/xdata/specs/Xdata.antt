@@ -20,8 +20,12 @@ use Rattle.xdata.specs.declared.SizeOf.{SizeOf}
 abbrev pub fitXdata : Lent → Bool
 fitXdata x = eqb (x .base % 4) 0 && leb (end x) (2 ^ 32)
 
+-- X of a head's first word
+abbrev pub handled : (word : ℕ) → Bool
+handled w = bit 20 w
+
 abbrev pub X : Head → Bool
-X h = bit 20 (h .word)
+X h = handled (h .word)
 
 abbrev pub E : Head → Bool
 E h = bit 21 (h .word)

@@ -13,7 +13,7 @@ ghost use lib.ListN.{length};
 ghost use Rattle.lent.specs.Lent.{lent};
 ghost use Rattle.lent.specs.Little.{word32};
 ghost use Rattle.words.specs.Answer.{ok, refuse};
-ghost use Rattle.xdata.specs.Xdata.{fitXdata, X, E, F, scopeCount, codesOffset, handlerOffset, recordBytes, shortHead, headAt, xdataSize, sizeAnswer, spanOf, handlerAt};
+ghost use Rattle.xdata.specs.Xdata.{fitXdata, handled as handledOf, X, E, F, scopeCount, codesOffset, handlerOffset, recordBytes, shortHead, headAt, xdataSize, sizeAnswer, spanOf, handlerAt};
 ghost use Rattle.xdata.specs.as_coded.Heads.{headRead, wholeRecord, longRecord};
 ghost use Rattle.xdata.specs.Scopes.{scopeOf};
 ghost use Rattle.xdata.specs.as_coded.Scopes.{resZero};
@@ -46,11 +46,17 @@ pub fn fit(rva: u32, xdata: &[u8]) -> bool
     rva % 4 == 0 && (rva as u64) + (xdata.len() as u64) <= 4294967296
 }
 
-// X: a handler follows the codes.
+// X: a handler follows the codes of the record with this first word.
+pub fn handled(word: u32) -> bool
+    ensures { λ r. ⌜ r ≡ handledOf word ⌝ }
+{
+    bit(word, 20)
+}
+
 fn has_handler(h: Head) -> bool
     ensures { λ r. ⌜ r ≡ X h ⌝ }
 {
-    bit(h.word, 20)
+    handled(h.word)
 }
 
 // E: there is one epilogue, which has the count for an index (RULES 2.10).

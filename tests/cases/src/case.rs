@@ -23,6 +23,8 @@ pub enum Known {
         full: bool,
     },
     Chain(Box<Chain>),
+    /// The whole text of the outline.
+    Outline(String),
 }
 
 /// What a processor did on its way to the reported pc.

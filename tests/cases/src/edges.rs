@@ -1,6 +1,7 @@
 //! Sound reports at the borders of what a frame may read, and records with one undefined code.
 
 use crate::case::{Case, Known};
+use crate::draft::LONGEST;
 use crate::families::neighbour;
 use crate::full;
 use crate::functions::Function;
@@ -73,10 +74,13 @@ pub fn undefined_code(rng: &mut Rng) -> Case {
     } else {
         function.offset_in_stretch(rng).min(function.length - 2)
     };
-    let known = if module.reaches(1, offset) { Known::FirstRefused(6) } else { Known::Nothing };
     let pc = module.address(1, offset);
     let room = Room::around(rng, words);
-    Case { kind, report: furnish(rng, &module, pc, room, MIX).bytes(), known }
+    let report = furnish(rng, &module, pc, room, MIX).bytes();
+    // Very many epilogues over a very large stack are too long.
+    let reached = module.reaches(1, offset) && report.len() <= LONGEST;
+    let known = if reached { Known::FirstRefused(6) } else { Known::Nothing };
+    Case { kind, report, known }
 }
 
 /// A code that is defined nowhere, and the name of its kind.

@@ -10,23 +10,26 @@ use crate::draft::{Draft, LR, PC, SP};
 use crate::framing::frame;
 use crate::processor::Processor;
 use crate::records::{FullRecord, PackedFields, Scope, Scopes};
+use crate::region_examples;
 use crate::rng::Rng;
 use crate::steps::registers;
 use crate::steps::Effect::{self, Anchor, Push, Room, StoreLink};
 
-/// Reports with the answers of both batch programs.
+/// Reports with the answers of the batch programs.
 #[derive(Default)]
 pub struct Vectors {
     /// Each preceded by its length.
     pub reports: Vec<u8>,
     pub walks: String,
+    pub outlines: String,
     pub callers: String,
 }
 
 impl Vectors {
-    fn add(&mut self, report: &[u8], walk: &str, caller: &str) {
+    pub fn add(&mut self, report: &[u8], walk: &str, outline: &str, caller: &str) {
         frame(&mut self.reports, report);
         self.walks += &format!("{walk}\n");
+        self.outlines += &format!("{outline}\n");
         self.callers += &format!("{caller}\n");
     }
 }
@@ -227,7 +230,7 @@ fn full(length: u32, scopes: Scopes, codes: &[u8], handler: u32) -> Record {
 }
 
 /// All examples at every instruction and inside every 32-bit one, in the body and right behind the
-/// function.
+/// function; and those of guarded regions.
 pub fn vectors() -> Vectors {
     let mut vectors = Vectors::default();
     let examples = [
@@ -251,6 +254,7 @@ pub fn vectors() -> Vectors {
     }
     packed_of_01().lose_last_word(&mut vectors);
     whole_listing(&mut vectors);
+    region_examples::add_to(&mut vectors);
     vectors
 }
 
@@ -404,15 +408,13 @@ impl Example {
 
 /// The answers if the frame unwinds.
 fn add_unwound(vectors: &mut Vectors, draft: &Draft, entry: &Processor, said: &Said) {
-    let walk = format!(
-        "frame pc sp place\n0 {:08x} {:08x} {}\nrefused 12 at {:08x} frames 1 codes {}\n",
-        draft.r[PC],
-        draft.r[SP],
-        said.place,
-        RETURN_ADDRESS & !1,
-        said.codes,
-    );
-    vectors.add(&draft.bytes(), &walk, &caller_text(draft, entry, said));
+    let Said { place, codes, .. } = said;
+    let frame = format!("frame pc sp place\n0 {:08x} {:08x} {place}\n", draft.r[PC], draft.r[SP]);
+    // Behind the records with a handler there is nothing.
+    let regions = if said.handler == 0 { "" } else { "  refused 15\n" };
+    let last = format!("refused 12 at {:08x} frames 1 codes {codes}\n", RETURN_ADDRESS & !1);
+    let (walk, outline) = (format!("{frame}{last}"), format!("{frame}{regions}{last}"));
+    vectors.add(&draft.bytes(), &walk, &outline, &caller_text(draft, entry, said));
 }
 
 /// What the caller program says if the frame unwinds: the state at entry, which goes on at the return
@@ -435,7 +437,7 @@ pub fn caller_text(draft: &Draft, entry: &Processor, said: &Said) -> String {
 fn add_refused(vectors: &mut Vectors, draft: &Draft, number: u32) {
     let pc = draft.r[PC];
     let walk = format!("frame pc sp place\nrefused {number} at {pc:08x} frames 0 codes 0\n");
-    vectors.add(&draft.bytes(), &walk, &refused_text(draft, number));
+    vectors.add(&draft.bytes(), &walk, &walk, &refused_text(draft, number));
 }
 
 /// What the caller program says if the frame is refused: the registers as given.
@@ -443,7 +445,7 @@ pub fn refused_text(draft: &Draft, number: u32) -> String {
     format!("refused {number}\n") + &show_registers(&draft.r, &draft.d)
 }
 
-fn show_registers(r: &[u32; 16], d: &[u64; 32]) -> String {
+pub fn show_registers(r: &[u32; 16], d: &[u64; 32]) -> String {
     let names = ["r0", "r1", "r2", "r3", "r4", "r5", "r6", "r7", "r8", "r9", "r10", "r11", "r12"];
     let names = names.iter().chain(&["sp", "lr", "pc"]);
     let mut text: String =
@@ -484,5 +486,5 @@ pub fn listing_caller() -> String {
 }
 
 fn whole_listing(vectors: &mut Vectors) {
-    vectors.add(&listing_draft().bytes(), LISTING, &listing_caller());
+    vectors.add(&listing_draft().bytes(), LISTING, LISTING, &listing_caller());
 }

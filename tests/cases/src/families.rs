@@ -8,6 +8,7 @@ use crate::draft::{Draft, LR, PC, SP};
 use crate::edges;
 use crate::full;
 use crate::functions::Function;
+use crate::guarded::guarded;
 use crate::module::Module;
 use crate::packed;
 use crate::records::PackedFields;
@@ -16,7 +17,7 @@ use crate::scene::{furnish, Mix, Room};
 use crate::unfit;
 
 /// The names of the kinds.
-pub const KINDS: [&str; 21] = [
+pub const KINDS: [&str; 22] = [
     "packed",
     "full",
     "chain",
@@ -38,12 +39,13 @@ pub const KINDS: [&str; 21] = [
     "aimed, second frame",
     "aimed, file",
     "garbage",
+    "regions",
 ];
 
 /// Case `number` of the run with this seed.
 pub fn case(seed: u64, number: u64) -> Case {
     let rng = &mut Rng::new(seed, number);
-    match rng.within(0..=999) {
+    match rng.within(0..=1_099) {
         0..=229 => one_frame(rng, "packed", packed::any),
         230..=439 => one_frame(rng, "full", full::any),
         440..=509 => chain(rng),
@@ -57,7 +59,8 @@ pub fn case(seed: u64, number: u64) -> Case {
         740..=859 => aims::first_frame(rng),
         860..=949 => aims::second_frame(rng),
         950..=981 => unfit::file(rng),
-        _ => garbage(rng),
+        982..=999 => garbage(rng),
+        _ => guarded(rng),
     }
 }
 

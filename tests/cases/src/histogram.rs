@@ -12,6 +12,7 @@ use peer::walk::Stop;
 use crate::case::Case;
 use crate::families::KINDS;
 use crate::known::Answers;
+use crate::outlines;
 
 /// A class met fewer than 50 times in 20,000 reports is not tested.
 pub fn least(cases: u64) -> u64 {
@@ -55,22 +56,22 @@ impl Histogram {
         let in_record = |record| places.map(|place| format!("{record} {place}"));
         let first_places = records.into_iter().flat_map(in_record).chain(["leaf".to_string()]);
         let saved = (0..16).map(|saved| saved_name(saved & 8 != 0, saved & 7));
-        Histogram {
-            groups: vec![
-                Group::new(CALLER_REFUSED, (1..=11).chain([14])),
-                Group::new(WALK_REFUSED, 1..=14),
-                Group::new(WALK_STOP, ["end", "full", "refused"]),
-                Group::new(PLACE, first_places),
-                Group::new(LATER_PLACE, places),
-                Group::new(HANDLER, places),
-                Group::new(ROW, ROWS.map(|(_, name)| name)),
-                Group::new(PACKED, ["1", "2"]),
-                Group::new(PACKED_FIELDS, sound_fields()),
-                Group::new(PACKED_SAVED, saved),
-                Group::new(PACKED_ADJUST, ADJUSTS.map(|(_, name)| name)),
-                Group::new(KIND, KINDS),
-            ],
-        }
+        let mut groups = vec![
+            Group::new(CALLER_REFUSED, (1..=11).chain([14])),
+            Group::new(WALK_REFUSED, 1..=14),
+            Group::new(WALK_STOP, ["end", "full", "refused"]),
+            Group::new(PLACE, first_places),
+            Group::new(LATER_PLACE, places),
+            Group::new(HANDLER, places),
+            Group::new(ROW, ROWS.map(|(_, name)| name)),
+            Group::new(PACKED, ["1", "2"]),
+            Group::new(PACKED_FIELDS, sound_fields()),
+            Group::new(PACKED_SAVED, saved),
+            Group::new(PACKED_ADJUST, ADJUSTS.map(|(_, name)| name)),
+            Group::new(KIND, KINDS),
+        ];
+        groups.extend(outlines::groups());
+        Histogram { groups }
     }
 
     pub fn of(groups: Vec<Group>) -> Histogram {
@@ -93,6 +94,7 @@ impl Histogram {
             (Some(report), Some(answers)) => {
                 self.take_caller(report, answers);
                 self.take_walk(answers);
+                outlines::take(self, &report.around, &answers.walk.frames);
             }
             _ => {
                 self.count(CALLER_REFUSED, "14");

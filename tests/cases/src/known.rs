@@ -5,19 +5,19 @@ use peer::function::Place;
 use peer::machine::{PC, SP};
 use peer::refusal::Refusal;
 use peer::report::Report;
-use peer::text::ROOM;
+use peer::text::{outline, ROOM};
 use peer::walk::{walk, Stop, Walk};
 
 use crate::case::{Case, Chain, Known};
 
 /// The answers of the peer to one report.
-pub struct Answers {
-    pub caller: Result<Caller, Refusal>,
-    pub walk: Walk,
+pub struct Answers<'a> {
+    pub caller: Result<Caller<'a>, Refusal>,
+    pub walk: Walk<'a>,
 }
 
-impl Answers {
-    pub fn to(report: &Report) -> Answers {
+impl<'a> Answers<'a> {
+    pub fn to(report: &Report<'a>) -> Answers<'a> {
         Answers {
             caller: unwind(&report.around, &report.registers),
             walk: walk(&report.around, &report.registers, ROOM),
@@ -42,6 +42,7 @@ pub fn confirm(case: &Case, answers: Option<&Answers>) -> Option<bool> {
             Some(answers.walk.stop == stop && answers.walk.frames.len() == *frames)
         }
         Known::Chain(chain) => Some(is_chain(answers, chain)),
+        Known::Outline(text) => Some(outline(&case.report) == *text),
     }
 }
 

@@ -15,14 +15,17 @@ mod families;
 mod framing;
 mod full;
 mod functions;
+mod guarded;
 mod histogram;
 mod known;
 mod module;
 mod mutants;
 mod options;
+mod outlines;
 mod packed;
 mod processor;
 mod records;
+mod region_examples;
 mod requests;
 mod rng;
 mod samples;
@@ -30,6 +33,7 @@ mod scene;
 mod steps;
 mod stored;
 mod streams;
+mod tables;
 mod thread;
 mod truth;
 mod unfit;
@@ -203,11 +207,13 @@ fn count_requests(options: &Options) -> Result<bool, String> {
 fn write_vectors(folder: &Path, name: &str, vectors: &Vectors) -> Result<(), String> {
     write_file(&folder.join(format!("{name}.bin")), &vectors.reports)?;
     write_file(&folder.join(format!("{name}.walk")), vectors.walks.as_bytes())?;
+    write_file(&folder.join(format!("{name}.outline")), vectors.outlines.as_bytes())?;
     write_file(&folder.join(format!("{name}.caller")), vectors.callers.as_bytes())
 }
 
 fn write_examples(folder: &Path) -> Result<bool, String> {
     write_vectors(folder, "examples", &examples::vectors())?;
+    write_file(&folder.join("longest.report"), &region_examples::longest_report())?;
     for (number, stream) in streams::streams().iter().enumerate() {
         write_vectors(folder, &format!("stream-{number:02}"), stream)?;
     }
@@ -218,8 +224,10 @@ fn write_stored(options: &Options, real: &str, crates: &Path) -> Result<bool, St
     let stream = stored::stream(options.seed, options.cases, &bytes_of(real)?)?;
     write_file(&crates.join("walk/stdin"), &examples::listing_draft().bytes())?;
     write_file(&crates.join("caller/stdin"), &stored::offset_four().bytes())?;
-    write_file(&crates.join("walk_many/stdin"), &stream)?;
-    write_file(&crates.join("caller_many/stdin"), &stream)?;
+    write_file(&crates.join("outline/stdin"), &samples::nested_regions().report)?;
+    for program in ["walk_many", "caller_many", "outline_many"] {
+        write_file(&crates.join(program).join("stdin"), &stream)?;
+    }
     Ok(true)
 }
 
@@ -291,6 +299,9 @@ fn write_samples(folder: &Path) -> Result<bool, String> {
         write_known(&file("listing"), &listing, &sample.listing)?;
         if let Some(known) = &sample.caller {
             write_known(&file("caller"), &text::caller(&sample.report), known)?;
+        }
+        if let Some(known) = &sample.outline {
+            write_known(&file("outline"), &text::outline(&sample.report), known)?;
         }
     }
     Ok(true)

@@ -3,6 +3,7 @@
 use crate::draft::Draft;
 use crate::functions::{Function, Record};
 use crate::rng::Rng;
+use crate::tables::{Surroundings, Table};
 
 #[derive(Clone, Debug)]
 pub struct Module {
@@ -23,7 +24,7 @@ impl Module {
     pub fn assemble_at(rng: &mut Rng, functions: Vec<Function>, starts: Vec<u32>) -> Module {
         let mut draft = Draft::empty();
         draft.image_base = random_image_base(rng, &starts);
-        let (xdata, offsets) = write_xdata(rng, &functions);
+        let (xdata, offsets) = write_xdata(rng, &functions, &starts);
         draft.xdata_rva = random_xdata_rva(rng, &xdata);
         draft.xdata = xdata;
         for ((function, start), offset) in functions.iter().zip(&starts).zip(offsets) {
@@ -100,15 +101,19 @@ fn random_image_base(rng: &mut Rng, starts: &[u32]) -> u32 {
 }
 
 /// The .xdata bytes, and where in them each full record stands.
-fn write_xdata(rng: &mut Rng, functions: &[Function]) -> (Vec<u8>, Vec<u32>) {
+fn write_xdata(rng: &mut Rng, functions: &[Function], starts: &[u32]) -> (Vec<u8>, Vec<u32>) {
     let mut xdata = Vec::new();
     let mut offsets = Vec::new();
-    for function in functions {
+    for (function, start) in functions.iter().zip(starts) {
         let filler = 4 * rng.below(3);
         xdata.extend(rng.bytes(filler));
         offsets.push(xdata.len() as u32);
         if let Record::Full(record) = &function.record {
             xdata.extend(record.bytes());
+            if record.handler.is_some() && rng.percent(70) {
+                let around = Surroundings { start: *start, length: function.length, pcs: vec![] };
+                xdata.extend(Table::any(rng, &around, false).bytes());
+            }
         }
     }
     if rng.percent(30) {

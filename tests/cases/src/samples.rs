@@ -8,6 +8,7 @@ use crate::examples::{
     page_6, page_7, refused_text, Example, Record, LISTING,
 };
 use crate::steps::Effect::{Push, Room, VectorPush};
+use crate::tables::{table_bytes, Region};
 use crate::thread::{Stopped, Thread};
 
 pub struct Sample {
@@ -16,11 +17,13 @@ pub struct Sample {
     pub listing: String,
     /// Where the registers are worth seeing.
     pub caller: Option<String>,
+    /// Where there are guarded regions.
+    pub outline: Option<String>,
 }
 
 impl Sample {
     fn new(name: &'static str, draft: &Draft, listing: String) -> Sample {
-        Sample { name, report: draft.bytes(), listing, caller: None }
+        Sample { name, report: draft.bytes(), listing, caller: None, outline: None }
     }
 
     /// A thread whose frames are all found.
@@ -36,6 +39,14 @@ impl Sample {
 
     fn with_caller(mut self, caller: String) -> Sample {
         self.caller = Some(caller);
+        self
+    }
+
+    /// With these lines under that of the first frame.
+    fn with_regions(mut self, regions: &str) -> Sample {
+        let lines: Vec<&str> = self.listing.split_inclusive('\n').collect();
+        let (frame, rest) = lines.split_at(2);
+        self.outline = Some([frame.concat(), regions.to_string(), rest.concat()].concat());
         self
     }
 }
@@ -116,6 +127,8 @@ pub fn samples() -> Vec<Sample> {
         caller_outside(),
         too_deep(),
         not_a_report(),
+        nested_regions(),
+        crossing_regions(),
     ]);
     samples
 }
@@ -207,5 +220,42 @@ fn not_a_report() -> Sample {
         report: b"This file is a text and no report.\n".to_vec(),
         listing: "refused 14\n".to_string(),
         caller: Some("refused 14\n".to_string()),
+        outline: None,
     }
+}
+
+/// The page's example 6 with these regions.
+fn guarded(regions: &[Region]) -> Example {
+    let example = page_6();
+    let Record::Full { bytes, handler } = example.record else {
+        unreachable!("example 6 has a full record");
+    };
+    let bytes = [bytes, table_bytes(regions.len() as u32, regions)].concat();
+    Example { start: 0x7000, record: Record::Full { bytes, handler }, ..example }
+}
+
+/// A `__finally` around two filters, and a handler behind it. The table has the inner ones first.
+pub fn nested_regions() -> Sample {
+    let function = guarded(&[
+        [0x7018, 0x7028, 0x0019_b041, 0x7028],
+        [0x702c, 0x7034, 0x0019_b061, 0x7034],
+        [0x7010, 0x7038, 0x0019_b081, 0],
+        [0x703a, 0x7044, 1, 0x7044],
+    ]);
+    let stopped = begin().stops_in_body(&function, 0x20).within(&[plain(), function]);
+    Sample::ends("nested-regions", &stopped).with_regions(NESTED)
+}
+
+const NESTED: &str = "  * 00007010 00007038 0019b081 00000000
+    * 00007018 00007028 0019b041 00007028
+    - 0000702c 00007034 0019b061 00007034
+  - 0000703a 00007044 00000001 00007044
+";
+
+/// A region that ends behind the one it begins in.
+fn crossing_regions() -> Sample {
+    let function =
+        guarded(&[[0x7018, 0x703a, 0x0019_b041, 0x703a], [0x7010, 0x7038, 0x0019_b081, 0]]);
+    let stopped = begin().stops_in_body(&function, 0x20).within(&[plain(), function]);
+    Sample::ends("crossing-regions", &stopped).with_regions("  refused 16\n")
 }

@@ -2,15 +2,16 @@
 
 use std::collections::BTreeSet;
 
-use peer::text::{caller, listing};
+use peer::text::{caller, listing, outline};
 
 use crate::draft::{Draft, LONGEST, PC, SP};
 use crate::examples::listing_draft;
 use crate::families::case;
 use crate::framing::{frame, framed};
 
-/// What `classes` can say: refusals 1-11 and 14 and the four places of the one frame; refusals 1-14, "end" and "full" of the walk.
-const CLASSES: usize = 12 + 4 + 14 + 2;
+/// What `classes` can say: refusals 1-11 and 14 and the four places of the one frame; refusals 1-14, "end" and "full" of the walk;
+/// refusals 15 and 16 and the two marks, outermost and further in, of the outline.
+const CLASSES: usize = 12 + 4 + 14 + 2 + 2 + 4;
 
 /// Of the real reports, one in so many.
 const REAL_STEP: usize = 18;
@@ -57,13 +58,27 @@ fn every_class(seed: u64, cases: u64) -> Result<Vec<Vec<u8>>, String> {
     Err(format!("only {} of {CLASSES} ways to answer are met", met.len()))
 }
 
-/// How a report is answered: the caller's place or refusal, the walk's stop or refusal.
-fn classes(report: &[u8]) -> [String; 2] {
+/// How a report is answered: the caller's place or refusal, the walk's stop or refusal, and the lines that only an outline has.
+fn classes(report: &[u8]) -> Vec<String> {
     let (caller, listing) = (caller(report), listing(report));
     let first_line = caller.lines().next().unwrap_or_default();
     let last_line = listing.lines().last().unwrap_or_default();
     let words = |line: &str, count| line.split(' ').take(count).collect::<Vec<_>>().join(" ");
     let caller = if first_line.starts_with("refused") { 2 } else { 3 };
     let walk = if last_line.starts_with("refused") { 2 } else { 1 };
-    [format!("caller: {}", words(first_line, caller)), format!("walk: {}", words(last_line, walk))]
+    let mut classes = vec![
+        format!("caller: {}", words(first_line, caller)),
+        format!("walk: {}", words(last_line, walk)),
+    ];
+    classes.extend(outline(report).lines().filter(|line| line.starts_with(' ')).map(region_class));
+    classes
+}
+
+/// A refusal, or a region's mark and whether it is an outermost one.
+fn region_class(line: &str) -> String {
+    let (indent, rest) = line.split_at(line.find(['*', '-', 'r']).unwrap_or(0));
+    match rest.split_once(' ') {
+        Some(("refused", number)) => format!("regions: refused {number}"),
+        _ => format!("regions: {}, outermost {}", &rest[..1], indent.len() == 2),
+    }
 }

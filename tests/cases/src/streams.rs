@@ -6,7 +6,7 @@ use crate::framing::frame;
 
 const UNFIT: &str = "refused 14\n\n";
 
-/// Each input with the whole output of both programs.
+/// Each input with the whole output of the programs.
 pub fn streams() -> Vec<Vectors> {
     let good = listing_draft().bytes();
     let mut whole = Vec::new();
@@ -63,5 +63,11 @@ fn stream(reports: Vec<u8>, answers: &[Answer]) -> Vectors {
         };
         answers.iter().map(answer).collect()
     };
-    Vectors { reports, walks: text(LISTING), callers: text(&listing_caller()) }
+    let listings = text(LISTING);
+    Vectors {
+        reports,
+        outlines: listings.clone(),
+        walks: listings,
+        callers: text(&listing_caller()),
+    }
 }

@@ -17,17 +17,19 @@ pub struct Surroundings<'a> {
 }
 
 #[derive(Clone, Debug)]
-pub struct Caller {
+pub struct Caller<'a> {
     pub registers: Registers,
     pub place: Place,
     /// RVA, or 0.
     pub handler: u32,
     /// The undone instructions in order, one for each code run.
     pub ran: Vec<Instruction>,
+    /// The lent bytes that the region table of the covering record begins, if it has a handler.
+    pub table: Option<&'a [u8]>,
 }
 
 /// The caller of the frame that `given` stands in. The order of the checks is document 01's.
-pub fn unwind(around: &Surroundings, given: &Registers) -> Result<Caller, Refusal> {
+pub fn unwind<'a>(around: &Surroundings<'a>, given: &Registers) -> Result<Caller<'a>, Refusal> {
     check_parts(around)?;
     let rva = offset_in_image(around, given)?;
     pdata::check_ascending(around.pdata)?;
@@ -47,13 +49,19 @@ pub fn unwind(around: &Surroundings, given: &Registers) -> Result<Caller, Refusa
     if registers.r[SP] < given.r[SP] {
         return Err(Refusal::Falling);
     }
-    Ok(leave(registers, place, function.handler, left))
+    let caller = leave(registers, place, function.handler, left);
+    Ok(Caller { table: record.table(), ..caller })
 }
 
 /// The caller once everything is undone: it goes on at the return address, LR itself stays.
-fn leave(mut registers: Registers, place: Place, handler: u32, ran: &[Instruction]) -> Caller {
+fn leave(
+    mut registers: Registers,
+    place: Place,
+    handler: u32,
+    ran: &[Instruction],
+) -> Caller<'static> {
     registers.r[PC] = registers.r[LR] & !1;
-    Caller { registers, place, handler, ran: ran.to_vec() }
+    Caller { registers, place, handler, ran: ran.to_vec(), table: None }
 }
 
 fn undo_all(left: &[Instruction], given: &Registers, stack: &Stack) -> Result<Registers, Refusal> {
@@ -102,6 +110,13 @@ impl<'a> Record<'a> {
         match self {
             Record::Packed(packed) => packed.length,
             Record::Full(full) => full.length(),
+        }
+    }
+
+    fn table(&self) -> Option<&'a [u8]> {
+        match self {
+            Record::Packed(_) => None,
+            Record::Full(full) => full.table(),
         }
     }
 

@@ -121,6 +121,8 @@ pub struct Full<'a> {
     scopes: Vec<Scope>,
     codes: &'a [u8],
     handler: u32,
+    /// With X=1 the lent bytes behind the record.
+    table: Option<&'a [u8]>,
 }
 
 impl<'a> Full<'a> {
@@ -149,12 +151,18 @@ impl<'a> Full<'a> {
             scopes: read_scopes(scopes)?,
             codes,
             handler: word_at(rest, 0).unwrap_or(0),
+            table: xdata.from(rva)?.get(record.len()..).filter(|_| header.has_handler),
             header,
         })
     }
 
     pub fn length(&self) -> u64 {
         self.header.length
+    }
+
+    /// The lent bytes that a region table begins, if the record has a handler.
+    pub fn table(&self) -> Option<&'a [u8]> {
+        self.table
     }
 
     pub fn function(&self) -> Result<Function, Refusal> {

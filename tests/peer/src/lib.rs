@@ -2,8 +2,8 @@
 //! proved programs can be compared with something that is not built like them.
 //!
 //! It has no tables: codes are told apart by mask and value, a packed record becomes instructions
-//! without passing through code bytes, which are written from the instructions, and a pc finds its
-//! place by laying instructions end to end.
+//! without passing through code bytes, which are written from the instructions, a pc finds its place by
+//! laying instructions end to end, and a guarded region looks for the smallest one that holds it.
 //! Offsets, lengths and sizes are bytes throughout, held in 64 bits so that no sum wraps.
 
 pub mod batch;
@@ -18,6 +18,7 @@ pub mod operations;
 pub mod packed;
 pub mod pdata;
 pub mod refusal;
+pub mod regions;
 pub mod report;
 pub mod text;
 pub mod walk;

@@ -6,10 +6,11 @@ use std::process::ExitCode;
 use peer::batch::answer_all;
 use peer::operations;
 use peer::report::LONGEST;
-use peer::text::{caller, listing};
+use peer::text::{caller, listing, outline};
 
 const USAGE: &str = "\
-usage: peer walk|caller|walk_many|caller_many < REPORTS
+usage: peer walk|caller|outline < REPORT
+       peer walk_many|caller_many|outline_many < REPORTS
        peer operations < REQUESTS";
 
 fn main() -> ExitCode {
@@ -17,8 +18,10 @@ fn main() -> ExitCode {
     let result = match program.as_str() {
         "walk" => answer_one(listing),
         "caller" => answer_one(caller),
+        "outline" => answer_one(outline),
         "walk_many" => answer_many(listing),
         "caller_many" => answer_many(caller),
+        "outline_many" => answer_many(outline),
         "operations" => answer_operations(),
         _ => Err(io::Error::new(io::ErrorKind::InvalidInput, USAGE)),
     };

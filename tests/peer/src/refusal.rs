@@ -31,6 +31,10 @@ pub enum Refusal {
     Standstill = 13,
     /// The report file is unfit.
     Unfit = 14,
+    /// A region table has more than 64 regions or is not wholly lent.
+    Table = 15,
+    /// A region does not begin below its end, or two regions cross.
+    Nesting = 16,
 }
 
 impl Refusal {

@@ -6,14 +6,25 @@ use crate::frame::unwind;
 use crate::function::Place;
 use crate::machine::{Registers, LR, PC, SP};
 use crate::refusal::Refusal;
+use crate::regions::{self, Line, Region};
 use crate::report::Report;
-use crate::walk::{walk, Stop};
+use crate::walk::{walk, Frame, Stop};
 
 /// Frames the walk program has room for.
 pub const ROOM: usize = 256;
 
 /// The listing that the walk program prints for a report.
 pub fn listing(report: &[u8]) -> String {
+    listing_with(report, |_, _| String::new())
+}
+
+/// The listing with each frame's regions under its line.
+pub fn outline(report: &[u8]) -> String {
+    listing_with(report, regions_under)
+}
+
+/// The listing with a text under each frame's line, which is made from the image base and the frame.
+fn listing_with(report: &[u8], under: fn(u32, &Frame) -> String) -> String {
     let report = match Report::read(report) {
         Ok(report) => report,
         Err(refusal) => return refused(refusal),
@@ -23,6 +34,7 @@ pub fn listing(report: &[u8]) -> String {
     for (number, frame) in walk.frames.iter().enumerate() {
         let place = place_name(frame.place);
         line(&mut text, format_args!("{number} {:08x} {:08x} {place}", frame.pc, frame.sp));
+        text += &under(report.around.image_base, frame);
     }
     let counts = format!("frames {} codes {}", walk.frames.len(), walk.codes);
     match walk.stop {
@@ -34,6 +46,28 @@ pub fn listing(report: &[u8]) -> String {
         }
     }
     text
+}
+
+/// The outline of a frame's regions, or why its table is refused.
+fn regions_under(image_base: u32, frame: &Frame) -> String {
+    let Some(table) = frame.table else {
+        return String::new();
+    };
+    let rva = frame.pc - image_base;
+    match regions::read(table) {
+        Ok(regions) => {
+            let lines = regions::outline(&regions);
+            lines.iter().map(|line| region_line(line, rva)).collect()
+        }
+        Err(refusal) => format!("  {}", refused(refusal)),
+    }
+}
+
+fn region_line(Line { level, region }: &Line, rva: u32) -> String {
+    let indent = 2 * level;
+    let mark = if region.contains(rva) { '*' } else { '-' };
+    let Region { begin, end, handler, target } = region;
+    format!("{:indent$}{mark} {begin:08x} {end:08x} {handler:08x} {target:08x}\n", "")
 }
 
 /// The innermost frame's caller with every register. A refusal shows the registers as given.

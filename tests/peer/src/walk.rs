@@ -6,10 +6,12 @@ use crate::machine::{Registers, PC, SP};
 use crate::refusal::Refusal;
 
 #[derive(Clone, Copy, Debug)]
-pub struct Frame {
+pub struct Frame<'a> {
     pub pc: u32,
     pub sp: u32,
     pub place: Place,
+    /// The lent bytes that the region table of the covering record begins, if it has a handler.
+    pub table: Option<&'a [u8]>,
 }
 
 #[derive(Clone, Copy, Debug, PartialEq, Eq)]
@@ -20,15 +22,15 @@ pub enum Stop {
 }
 
 #[derive(Clone, Debug)]
-pub struct Walk {
-    pub frames: Vec<Frame>,
+pub struct Walk<'a> {
+    pub frames: Vec<Frame<'a>>,
     /// Codes run in those frames.
     pub codes: usize,
     pub stop: Stop,
 }
 
 /// Unwinds from `given` until the outermost frame, a refusal, or `room` frames.
-pub fn walk(around: &Surroundings, given: &Registers, room: usize) -> Walk {
+pub fn walk<'a>(around: &Surroundings<'a>, given: &Registers, room: usize) -> Walk<'a> {
     let mut registers = given.clone();
     let mut frames = Vec::new();
     let mut codes = 0;
@@ -41,7 +43,8 @@ pub fn walk(around: &Surroundings, given: &Registers, room: usize) -> Walk {
             Ok(caller) => caller,
             Err(refusal) => break Stop::Refused { refusal, pc },
         };
-        frames.push(Frame { pc, sp: registers.r[SP], place: caller.place });
+        let Caller { place, table, .. } = caller;
+        frames.push(Frame { pc, sp: registers.r[SP], place, table });
         codes += caller.ran.len();
         registers = caller.registers;
         if registers.r[PC] == 0 {
@@ -53,7 +56,11 @@ pub fn walk(around: &Surroundings, given: &Registers, room: usize) -> Walk {
 
 /// Only the innermost frame may be a leaf or leave SP where it was; otherwise a walk could go round
 /// in circles.
-fn next(around: &Surroundings, given: &Registers, innermost: bool) -> Result<Caller, Refusal> {
+fn next<'a>(
+    around: &Surroundings<'a>,
+    given: &Registers,
+    innermost: bool,
+) -> Result<Caller<'a>, Refusal> {
     let caller = unwind(around, given)?;
     if !innermost && caller.place == Place::Leaf {
         return Err(Refusal::Uncovered);

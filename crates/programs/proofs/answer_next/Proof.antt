@@ -1,21 +1,19 @@
--- A report that came whole stands at the buffer's start.
+-- A report that was taken stands at the buffer's start.
 -- Assumes nothing.
-use Rattle.streams.proofs.Moved.{report-counts}
+use Rattle.programs.proofs.Taken.{report-fits}
 use borrow.Author.Needs.{needs}
 use Rattle.programs.proofs.answer_next.Statement.{statement}
 use Rattle.programs.proofs.answer_next.Tie as tie
 
 slice-reshare-prefix-answer-line : tie.Need-slice-reshare-prefix-answer-line
 slice-reshare-prefix-answer-line c =
-    let t = c .before .before .before .before .before .next in
-    let k = report-counts (t .result) _ (t .last .1 .0) (c .before .n .given .1) (t .ensures) in
-    search needs
+    let t = c .before .before .before .before .before .take in
+    report-fits (t .result) _ (t .last .0) (c .before .n .given .1) (t .ensures) .0
 
 slice-aggregate-answer-line : tie.Need-slice-aggregate-answer-line
 slice-aggregate-answer-line c =
-    let t = c .before .before .before .before .before .before .next in
-    let k = report-counts (t .result) _ (t .last .1 .0) (c .before .before .n .given .1) (t .ensures) in
-    search needs
+    let t = c .before .before .before .before .before .before .take in
+    report-fits (t .result) _ (t .last .0) (c .before .before .n .given .1) (t .ensures) .1
 
 pub answer-next-spec : {M : Type 1} → statement M
 answer-next-spec =
@@ -29,14 +27,6 @@ answer-next-spec =
     (λ c. search needs)
     (λ c. search needs)
     (λ c κs. search needs)
-    (λ c. search needs)
-    (λ c κs. search needs)
-    (λ c. search needs)
-    (λ c κs. search needs)
-    (λ c. search needs)
-    (λ c κs. search needs)
-    (λ c. search needs)
-    (λ c. search needs)
     (λ c. search needs)
     (λ c. search needs)
     (λ c. search needs)

@@ -1,0 +1,11 @@
+pub mod Frames
+pub mod Sizes
+pub mod Turning
+pub mod Beginning
+pub mod Leaving
+pub mod Indenting
+pub mod Stripping
+pub mod Parting
+pub mod Covering
+pub mod Laying
+pub mod Longest

@@ -1,0 +1,2 @@
+pub mod RegionText
+pub mod as_coded

@@ -1,0 +1,3 @@
+pub mod Region
+pub mod Table
+pub mod as_coded
