@@ -50,7 +50,7 @@ const MARKS: [(u32, &str); 11] = [
     (0x30, "--------*"),
 ];
 
-/// The examples, and the longest text there may be.
+/// The examples, and a text with as many regions as there may be.
 pub fn add_to(vectors: &mut Vectors) {
     for (offset, marks) in MARKS {
         let under = marks
@@ -66,7 +66,7 @@ pub fn add_to(vectors: &mut Vectors) {
     longest.add_to(vectors, &under);
 }
 
-/// The report with the longest text there may be.
+/// The report with that text.
 pub fn longest_report() -> Vec<u8> {
     longest().0.draft.bytes()
 }
