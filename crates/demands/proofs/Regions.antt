@@ -85,6 +85,9 @@ fine rs (given s f n h k) e =
 pub order1 : Order1 oursOfRegions
 unfolding regionsText
 order1 = record {
+  told = λ x at. refl;
+  drawn = λ x at a. refl;
+  outlined = λ s. refl;
   numbered = λ x at r e. denied-number r (lists x at) e;
   few = λ x at rs e. fine rs (lists x at) e .short;
   stays = λ x x′ at m f l. regions-stay x x′ m at f l;

@@ -16,7 +16,7 @@ use Rattle.regions.specs.Table.{Listed, listed, denied, regionNumber, regionsOf
 use Rattle.nesting.specs.Outline.{Outline, depth}
 use Rattle.nesting.specs.Nested.{Nested}
 use Rattle.region_text.specs.RegionText.{outlineText, refusedLine, regionsText}
-use Rattle.outlining.specs.Outlined.{outlined}
+use Rattle.outlining.specs.Outlined as Whole
 use Rattle.outlining.specs.Stripped.{stripped}
 use Rattle.demands.specs.Reader.{ours}
 use Rattle.demands.specs.Demand1.{More}
@@ -31,7 +31,7 @@ abbrev pub oursOfRegions : RegionReader
 oursOfRegions = record {
   regions = regionsOf;
   lines = λ x at a. regionsText a (regionsOf x at);
-  outline = outlined;
+  outline = Whole.outlined;
 }
 
 -- an answer that does not say that something is not lent
@@ -42,6 +42,11 @@ lasting (denied TableOutside) = false
 lasting (denied Crossed) = true
 
 pub record Order1 (a : RegionReader) : Type 0 where
+  -- the answers are those of the definitions; without this a reader that prints no region at all would do, for the laws below ask of its outline
+  -- only what is left without regions
+  pub told : (x : Lent) (at : ℕ) → a .regions x at ≡ oursOfRegions .regions x at
+  pub drawn : (x : Lent) (at rva : ℕ) → a .lines x at rva ≡ oursOfRegions .lines x at rva
+  pub outlined : (file : List ℕ) → a .outline file ≡ oursOfRegions .outline file
   -- the numbers of its refusals (RULES 9.58), and how many regions there can be
   pub numbered : (x : Lent) (at : ℕ) (r : RegionRefusal) → a .regions x at ≡ denied r → let k = regionNumber r in (k ≡ 1) ⊎ (k ≡ 4) ⊎ (k ≡ 5) ⊎ (k ≡ 15) ⊎ (k ≡ 16)
   pub few : (x : Lent) (at : ℕ) (rs : List Region) → a .regions x at ≡ listed rs → length rs ≤ 64
