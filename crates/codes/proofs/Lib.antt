@@ -3,6 +3,7 @@ pub mod Entries
 pub mod Rows
 pub mod Sorts
 pub mod Registers
+pub mod Sound
 pub mod Meanings
 pub mod Values
 pub mod Taking

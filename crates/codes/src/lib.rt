@@ -1,10 +1,14 @@
 // The unwind codes (RULES 3.2): what each means, how many bytes it has, which size its instruction has. It knows neither registers'
 // values nor records.
+pub mod list;
 mod table;
 
+use list::from_r4;
+use list::lr_if;
 use words::CodeBytes;
 use words::Halfwords;
 use words::StackWords;
+use words::bit;
 use words::bits;
 ghost use mathlib.Core.Path.{_≡_};
 ghost use Prim.Native.Nat.{_+_, _≤_, _<_};
@@ -13,13 +17,13 @@ ghost use mathlib.Core.Bool.{_||_};
 ghost use lib.Dec.{leb, eqb};
 ghost use Rattle.words.specs.Units.{codeBytes, stackWords};
 ghost use Rattle.words.specs.Answer.{if_then_else_};
-ghost use Rattle.codes.specs.Table.{rowOf, fromR4, lrIf};
+ghost use Rattle.codes.specs.Table.{rowOf, lrIf};
 ghost use Rattle.codes.specs.as_coded.Rows.{entryOf, rowNumbers};
 ghost use Rattle.codes.specs.as_coded.Sizing.{sized, fitting};
 ghost use Rattle.codes.specs.Code.{value as valueOf, taken as takenOf, takeAt};
 
-// What a code undoes. Bit k of a list of registers stands for rk, bit 14 for LR. All payloads have one width, and so one place: the
-// compiler then keeps a code in registers, which it does not with narrower ones.
+// What a code undoes. Lists of registers are those of list.rt. All payloads have one width, and so one place: the compiler then keeps a code
+// in registers, which it does not with narrower ones.
 pub enum Undo {
     // SP rises by so many words
     Up(StackWords),
@@ -103,12 +107,12 @@ fn up(n: u32) -> Meaning
     Meaning::Does(Undo::Up(StackWords(n)))
 }
 
-// Pop a list of r0-r12 and, by a bit, LR.
-fn pop(list: u32, lr: u32) -> Meaning
-    requires { ⌜ (list < 8192) × (lr < 2) ⌝ }
-    ensures { λ r. ⌜ r ≡ Meaning.Does (Undo.Pop (list + lrIf lr)) ⌝ }
+// Pop a list of r0-r12, and LR if it is listed.
+fn pop(others: u32, lr: bool) -> Meaning
+    requires { ⌜ others < 8192 ⌝ }
+    ensures { λ r. ⌜ r ≡ Meaning.Does (Undo.Pop (others + lrIf (if lr then 1 else 0))) ⌝ }
 {
-    Meaning::Does(Undo::Pop(list + lr * 16384))
+    Meaning::Does(Undo::Pop(others + lr_if(lr)))
 }
 
 // vpop dS-dE, where the list is not empty.
@@ -120,16 +124,6 @@ fn vpop(s: u32, e: u32) -> Meaning
     } else {
         Meaning::Undefined
     }
-}
-
-// The list r4-rX for X from 4 to 11, and no register for others.
-pub fn from_r4(x: u32) -> u32
-    ensures { λ r. ⌜ (r ≡ fromR4 x) × (r < 4096) ⌝ }
-{
-    if 4 <= x && x <= 11 {
-        return (1 << (x + 1)) - 16;
-    }
-    0
 }
 
 // SP = rX, but for X = 13 and X = 15.
@@ -153,19 +147,19 @@ fn load_lr(high: u32, low: u32) -> Meaning
     }
 }
 
-// What a code means, by its first byte and its value, which is its bytes as one number: the rows of RULES 3.2.
+// What a code means, by its first byte and its value, which is its bytes as one number: the rows of RULES 3.2. docs/POPS.md reads those that pop.
 pub fn means(b: u8, v: u32) -> Meaning
     ensures { λ r. ⌜ r ≡ rowOf b .means v ⌝ }
 {
     match b {
         0x00..=0x7F => up(bits(v, 0, 7)),
-        0x80..=0xBF => pop(bits(v, 0, 13), bits(v, 13, 1)),
+        0x80..=0xBF => pop(bits(v, 0, 13), bit(v, 13)),
         0xC0..=0xCF => sp_from(bits(v, 0, 4)),
-        0xD0..=0xD7 => pop(from_r4(4 + bits(v, 0, 2)), bits(v, 2, 1)),
-        0xD8..=0xDF => pop(from_r4(8 + bits(v, 0, 2)), bits(v, 2, 1)),
+        0xD0..=0xD7 => pop(from_r4(4 + bits(v, 0, 2)), bit(v, 2)),
+        0xD8..=0xDF => pop(from_r4(8 + bits(v, 0, 2)), bit(v, 2)),
         0xE0..=0xE7 => vpop(8, 8 + bits(v, 0, 3)),
         0xE8..=0xEB => up(bits(v, 0, 10)),
-        0xEC..=0xED => pop(bits(v, 0, 8), bits(v, 8, 1)),
+        0xEC..=0xED => pop(bits(v, 0, 8), bit(v, 8)),
         0xEF => load_lr(bits(v, 4, 4), bits(v, 0, 4)),
         0xF5 => vpop(bits(v, 4, 4), bits(v, 0, 4)),
         0xF6 => vpop(16 + bits(v, 4, 4), 16 + bits(v, 0, 4)),

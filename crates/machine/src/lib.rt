@@ -164,7 +164,7 @@ fn has(list: u32, x: usize) -> bool
     (list >> x) % 2 == 1
 }
 
-// How many words a pop of a list takes.
+// How many registers a list has: so many words a pop of it takes.
 fn words_listed(list: u32) -> u64
     ensures { λ r. ⌜ r ≡ wordsListed list 15 ⌝ }
 {
@@ -185,7 +185,8 @@ fn room(list: u32, sp: u32, base: u32, stack: &[u8]) -> bool
     lent::holds(base, stack, at, 60) || lent::holds(base, stack, at, 4 * words_listed(list))
 }
 
-// Pops a list whose words are lent, with no test for each: its caller has asked `room`.
+// Loads the registers of a list from low to high, LR as 14 at last, each from the next word (RULES 3.11). There is no test for each: its
+// caller has asked `room`.
 fn pop_in(list: u32, r: &mut [u32; 13], sp: u32, lr: u32, base: u32, stack: &[u8]) -> Undone
     requires { ⌜ holdsOf (lent base (now stack)) sp (4 * wordsListed list 15) ≡ true ⌝ }
     ensures { λ u. ⌜ ((pc : ℕ) (d : List ℕ) → came (u .verdict) (regs (now (r .exit)) (u .sp) (u .lr) pc d) ≡ popOf (lent base (now (stack .entry))) list 15 (regs (now (r .entry)) sp lr pc d)) ⌝ }
@@ -201,7 +202,7 @@ fn pop_in(list: u32, r: &mut [u32; 13], sp: u32, lr: u32, base: u32, stack: &[u8
     moved((base as u64) + (o as u64), back)
 }
 
-// Pops a list by rising number, LR as 14 at last (RULES 3.11).
+// Pops a list, or refuses if some word of it is not lent.
 fn pop(list: u32, r: &mut [u32; 13], sp: u32, lr: u32, base: u32, stack: &[u8]) -> Undone
     ensures { λ u. ⌜ ((pc : ℕ) (d : List ℕ) → came (u .verdict) (regs (now (r .exit)) (u .sp) (u .lr) pc d) ≡ popOf (lent base (now (stack .entry))) list 15 (regs (now (r .entry)) sp lr pc d)) ⌝ }
 {

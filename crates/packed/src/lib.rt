@@ -1,5 +1,8 @@
 // Packed words: their fields, the word's writer, the stack adjustment and the registers that they stand for. It knows neither registers'
 // values nor the stack.
+use codes::list::from_r4;
+use codes::list::lr_if;
+use codes::list::range;
 use words::Halfwords;
 use words::Refusal;
 use words::StackWords;
@@ -7,9 +10,9 @@ use words::Verdict;
 use words::bit;
 use words::bits;
 ghost use mathlib.Core.Path.{_≡_};
-ghost use Prim.Native.Nat.{_+_, _-_, _%_, _<_};
+ghost use Prim.Native.Nat.{_+_, _-_, _*_, _%_, _^_, _<_, _≤_};
 ghost use lib.Dec.{eqb};
-ghost use Rattle.codes.specs.Table.{range};
+ghost use Rattle.codes.specs.Table.{range as rangeOf, lrIf};
 ghost use Rattle.words.specs.Answer.{if_then_else_};
 ghost use Rattle.packed.specs.Packed.{Fit, fields as fieldsOf, fieldsFit, allowed as allowedOf, wordOf, writeWord, wordAnswer, folded as foldedOf, amount as amountOf, PF, EF, integers as integersOf};
 
@@ -140,41 +143,49 @@ pub fn ef(p: Packed) -> bool
     folded(p) && bit(p.adjust, 3)
 }
 
-// rS to r3 for S = 3, 2, 1, 0.
-const TO_R3: [u32; 4] = [8, 12, 14, 15];
-
-// The integer registers that Reg names, if R=0 (RULES 4.3).
+// r4 to rN, which Reg names, if R=0 (RULES 4.3).
 fn saved(p: Packed) -> u32
     requires { ⌜ Fit p ⌝ }
-    ensures { λ r. ⌜ (r ≡ (if eqb (p .r) 0 then range 4 (4 + p .reg) else 0)) × (r < 4096) ⌝ }
+    ensures { λ r. ⌜ (r ≡ (if eqb (p .r) 0 then rangeOf 4 (4 + p .reg) else 0)) × (r < 4096) ⌝ }
 {
     if p.r == 0 {
-        return codes::from_r4(4 + p.reg);
+        return from_r4(4 + p.reg);
     }
     0
 }
 
-// The registers up to r3 that a folded adjustment adds (RULES 4.3).
+// rS to r3, which a folded adjustment adds (RULES 4.3).
 fn homed(adjust: u32, fold: bool) -> u32
-    ensures { λ r. ⌜ (r ≡ (if fold then range (3 - adjust % 4) 3 else 0)) × (r < 16) ⌝ }
+    ensures { λ r. ⌜ (r ≡ (if fold then rangeOf (3 - adjust % 4) 3 else 0)) × (r < 16) ⌝ }
 {
     if fold {
-        return TO_R3[(adjust % 4) as usize];
+        return range(3 - adjust % 4, 3);
     }
     0
 }
 
-// The integer list but for LR.
-fn list(p: Packed, fold: bool) -> u32
+// r11, if C=1 (RULES 4.3).
+fn chained(p: Packed) -> u32
     requires { ⌜ Fit p ⌝ }
-    ensures { λ r. ⌜ (r ≡ integersOf p fold) × (r < 8192) ⌝ }
+    ensures { λ r. ⌜ (r ≡ p .c * 2 ^ 11) × (r ≤ 2048) ⌝ }
 {
-    saved(p) + homed(p.adjust, fold) + p.c * 2048
+    if p.c == 1 {
+        return range(11, 11);
+    }
+    0
 }
 
-// The integer list of a packed word but for LR: bit k stands for rk, and rS-r3 are in it if the adjustment is folded.
-pub fn integers(word: u32, fold: bool) -> u32
-    ensures { λ r. ⌜ (r ≡ integersOf (fieldsOf word) fold) × (r < 8192) ⌝ }
+// The integer list (RULES 4.3).
+fn list(p: Packed, fold: bool) -> u32
+    requires { ⌜ Fit p ⌝ }
+    ensures { λ r. ⌜ r ≡ integersOf p fold + lrIf (p .l) ⌝ }
+{
+    saved(p) + homed(p.adjust, fold) + chained(p) + lr_if(p.l == 1)
+}
+
+// The integer list of a packed word, LR in it if L=1, and rS-r3 if the adjustment is folded.
+pub fn registers(word: u32, fold: bool) -> u32
+    ensures { λ r. ⌜ r ≡ integersOf (fieldsOf word) fold + lrIf (fieldsOf word .l) ⌝ }
 {
     list(fields(word), fold)
 }

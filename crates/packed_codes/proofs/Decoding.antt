@@ -27,7 +27,7 @@ use Rattle.codes.proofs.Scanning.{takes}
 use Rattle.packed.specs.Packed.{Fit, amount, PF, EF, integers}
 use Rattle.packed_codes.specs.PackedCodes.{when, upCode, vpopCode, popCode, low, firstList, leave, secondList, written}
 use Rattle.packed.specs.declared.Packed.{Packed}
-use Rattle.packed.proofs.Registers.{integers-small}
+use Rattle.packed.proofs.IntegerLists.{integers-small}
 use Rattle.packed_codes.specs.Lists.{only, sizeIf, ups, vpops, pops, nops, homes, prologueCodes, leaving, epilogueCodes, Stands, Holds}
 use Rattle.packed_codes.proofs.Buffer.{holding-bytes}
 use Rattle.packed_codes.proofs.Lengths.{lists-fit}

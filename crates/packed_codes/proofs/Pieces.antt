@@ -7,13 +7,14 @@ use mathlib.Core.Bool.{Bool, true, false, _&&_, not}
 use mathlib.Core.Option.{Option, none, some}
 use lib.Dec.{eqb}
 use native.Mathlib.Omega.{arith}
-use borrow.Author.Tests.{ltb-true, eq-eqb, ne-eqb}
+use borrow.Author.Tests.{eq-eqb, ne-eqb}
+use Rattle.words.specs.Bits.{bits}
 use Rattle.words.specs.Units.{stackWords}
 use Rattle.words.specs.Answer.{if_then_else_}
-use Rattle.codes.specs.Table.{range}
+use Rattle.codes.specs.Table.{range, lrIf}
 use Rattle.packed.specs.Packed.{Fit, fields, amount, folded, EF, integers}
 use Rattle.packed.proofs.Words.{fields-fit}
-use Rattle.packed_codes.specs.PackedCodes.{when, upCode, vpopCode, upTo, dForm, popCode, low, leave, secondList}
+use Rattle.packed_codes.specs.PackedCodes.{when, upCode, vpopCode, upTo, dForm, popSized, popCode, low, leave, secondList}
 use Rattle.packed.specs.declared.Packed.{Packed}
 use Rattle.packed_codes.specs.as_coded.Out.{topOf}
 use Rattle.packed_codes.specs.declared.Top.the-variants.{Register, Other}
@@ -29,6 +30,14 @@ amount-small p f = go (folded p)
     go : (b : Bool) → stackWords (if b then p .adjust % 4 + 1 else p .adjust) .0 < 1024
     go true = omega arith
     go false = f .adjust
+
+-- a list of r0-r12 and LR, taken apart: the code of its pop, where it is empty and where it is not
+module _ (list : ℕ) (made : list ≡ bits 0 13 list + lrIf (bits 14 1 list)) (w : Bool) where
+  pub list-none : list ≡ 0 → popCode w (bits 0 13 list) (bits 14 1 list) ≡ []
+  list-none e = rw (eq-eqb (bits 0 13 list + bits 14 1 list) 0 (omega arith)) refl
+
+  pub list-some : (list ≡ 0 → ⊥) → popSized w (bits 0 13 list) (bits 14 1 list) ≡ popCode w (bits 0 13 list) (bits 14 1 list)
+  list-some n = rw (ne-eqb (bits 0 13 list + bits 14 1 list) 0 (λ z. n (omega arith))) refl
 
 -- the end of an epilogue
 pub leave-load :
@@ -77,11 +86,3 @@ d-register (some y) x f b other h = let e : y ≡ x = cc in rw e refl
 pub d-other : (t : Option ℕ) (f b : ℕ) (other : List ℕ) → topOf t ≡ Other → dForm t f b other ≡ other
 d-other none f b other h = refl
 d-other (some y) f b other h = absurd (let z : _≡_ {A = ℕ} 0 1 = cc in omega arith)
-
--- a narrow pop has low registers only
-pub narrow-low : (l b : ℕ) → (low l && eqb b 0) ≡ true → l < 256
-narrow-low l b h = go (low l) refl h
-  where
-    go : (t : Bool) → low l ≡ t → (t && eqb b 0) ≡ true → l < 256
-    go true e q = ltb-true l 256 e
-    go false e q = absurd (let z : _≡_ {A = ℕ} 0 1 = cc in omega arith)

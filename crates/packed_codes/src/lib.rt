@@ -1,12 +1,15 @@
 // The code bytes that a packed word stands for: the prologue's codes in reverse, and the epilogue's. It knows neither registers' values
 // nor the stack.
+use codes::list::from_r4;
+use codes::list::lr_of;
+use codes::list::others;
 use packed::Packed;
 use packed::allowed;
 use packed::amount;
 use packed::ef;
 use packed::fields;
-use packed::integers;
 use packed::pf;
+use packed::registers;
 use words::CodeBytes;
 use words::Refusal;
 use words::StackWords;
@@ -16,6 +19,8 @@ ghost use mathlib.Core.List.{_∷_, _++_, []};
 ghost use mathlib.Core.Bool.{true, false, _&&_, not};
 ghost use Prim.Native.Nat.{_+_, _≤_, _<_};
 ghost use lib.Dec.{eqb};
+ghost use Rattle.words.specs.Bits.{bits};
+ghost use Rattle.codes.specs.Table.{lrIf};
 ghost use Rattle.packed.specs.Packed.{Fit, fields as fieldsOf, amount as amountOf};
 ghost use Rattle.packed_codes.specs.PackedCodes.{when, upCode, vpopCode, upTo, popSized, popCode, low, firstList, leave as leaveOf, secondList, written, writeCodes, codesAnswer};
 ghost use Rattle.packed_codes.specs.as_coded.Out.{puts, topOf};
@@ -105,14 +110,14 @@ fn top_from(list: u32, first: u32) -> Top
     ensures { λ r. ⌜ r ≡ topOf (upTo 4 first list) ⌝ }
 {
     for x in first..first + 4 {
-        if list == codes::from_r4(x) {
+        if list == from_r4(x) {
             return Top::Register(x);
         }
     }
     Top::Other
 }
 
-// The code of a pop of 16 bits: D0-D7 for r4-rX, else EC-ED.
+// The code of a pop of 16 bits, LR apart: D0-D7 for r4-rX, else EC-ED.
 fn pop16(out: &mut [u8; 16], at: usize, list: u32, lr: u32) -> usize
     requires { ⌜ (list < 256) × (lr < 2) ⌝ }
     ensures { λ r. ⌜ (now (out .exit), r) ≡ puts (now (out .entry), at) (popSized true list lr) ⌝ }
@@ -126,7 +131,7 @@ fn pop16(out: &mut [u8; 16], at: usize, list: u32, lr: u32) -> usize
     }
 }
 
-// The code of a pop of 32 bits: D8-DF for r4-rX, else 80-BF.
+// The code of a pop of 32 bits, LR apart: D8-DF for r4-rX, else 80-BF.
 fn pop32(out: &mut [u8; 16], at: usize, list: u32, lr: u32) -> usize
     requires { ⌜ (list < 8192) × (lr < 2) ⌝ }
     ensures { λ r. ⌜ (now (out .exit), r) ≡ puts (now (out .entry), at) (popSized false list lr) ⌝ }
@@ -140,18 +145,20 @@ fn pop32(out: &mut [u8; 16], at: usize, list: u32, lr: u32) -> usize
     }
 }
 
-// The code of a pop, if the list is not empty.
-fn pop(out: &mut [u8; 16], at: usize, narrow: bool, list: u32, lr: u32) -> usize
-    requires { ⌜ (list < 8192) × (lr < 2) × (narrow ≡ true → list < 256) ⌝ }
-    ensures { λ r. ⌜ (now (out .exit), r) ≡ puts (now (out .entry), at) (popCode narrow list lr) ⌝ }
+// The code of a pop, if the list is not empty. It has 16 bits if it may (`narrow`) and no register but LR is above r7 (RULES 4.12).
+fn pop(out: &mut [u8; 16], at: usize, list: u32, narrow: bool) -> usize
+    requires { ⌜ list ≡ bits 0 13 list + lrIf (bits 14 1 list) ⌝ }
+    ensures { λ r. ⌜ (now (out .exit), r) ≡ puts (now (out .entry), at) (popCode (narrow && low (bits 0 13 list)) (bits 0 13 list) (bits 14 1 list)) ⌝ }
 {
-    if list + lr == 0 {
+    if list == 0 {
         return at;
     }
-    if narrow {
-        return pop16(out, at, list, lr);
+    let bare = others(list);
+    let lr = lr_of(list);
+    if narrow && bare < 256 {
+        return pop16(out, at, bare, lr);
     }
-    pop32(out, at, list, lr)
+    pop32(out, at, bare, lr)
 }
 
 // The first list: the prologue's codes in reverse, and FF (RULES 4.16).
@@ -160,49 +167,47 @@ fn first_list(out: &mut [u8; 16], at: usize, word: u32) -> usize
 {
     let p = fields(word);
     let fold = pf(p);
-    let registers = integers(word, fold);
     let at = adjust(out, at, p, fold);
     let at = vpop(out, at, p);
     let at = put_if(out, at, p.c, 0xFC);
-    let at = pop(out, at, registers < 256, registers, p.l);
+    let at = pop(out, at, registers(word, fold), true);
     let at = put_if(out, at, p.h, 0x04);
     put(out, at, 0xFF)
 }
 
-// The pop, and the return by a load (RULES 4.8).
-fn leave_loading(out: &mut [u8; 16], at: usize, registers: u32) -> usize
-    requires { ⌜ registers < 8192 ⌝ }
-    ensures { λ r. ⌜ (now (out .exit), r) ≡ puts (now (out .entry), at) (popCode (low registers) registers 0 ++ (0xEF ∷ 0x05 ∷ 0xFF ∷ [])) ⌝ }
+// The pop, which LR leaves, and the return by a load (RULES 4.8).
+fn leave_loading(out: &mut [u8; 16], at: usize, list: u32) -> usize
+    ensures { λ r. ⌜ (now (out .exit), r) ≡ puts (now (out .entry), at) (popCode (low (bits 0 13 list)) (bits 0 13 list) 0 ++ (0xEF ∷ 0x05 ∷ 0xFF ∷ [])) ⌝ }
 {
-    let at = pop(out, at, registers < 256, registers, 0);
+    let at = pop(out, at, others(list), true);
     let at = put(out, at, 0xEF);
     let at = put(out, at, 0x05);
     put(out, at, 0xFF)
 }
 
 // The pop, which has 32 bits with LR in it (RULES 4.12), and the return by a branch (RULES 4.10).
-fn leave_jumping(out: &mut [u8; 16], at: usize, p: Packed, registers: u32) -> usize
-    requires { ⌜ Fit p × (registers < 8192) ⌝ }
-    ensures { λ r. ⌜ (now (out .exit), r) ≡ puts (now (out .entry), at) (popCode (low registers && eqb (p .l) 0) registers (p .l) ++ when (eqb (p .h) 1) (0x04 ∷ []) ++ ((0xFC + p .ret) ∷ [])) ⌝ }
+fn leave_jumping(out: &mut [u8; 16], at: usize, p: Packed, list: u32) -> usize
+    requires { ⌜ Fit p × (list ≡ bits 0 13 list + lrIf (p .l)) ⌝ }
+    ensures { λ r. ⌜ (now (out .exit), r) ≡ puts (now (out .entry), at) (popCode (low (bits 0 13 list) && eqb (p .l) 0) (bits 0 13 list) (p .l) ++ when (eqb (p .h) 1) (0x04 ∷ []) ++ ((0xFC + p .ret) ∷ [])) ⌝ }
 {
-    let at = pop(out, at, registers < 256 && p.l == 0, registers, p.l);
+    let at = pop(out, at, list, p.l == 0);
     let at = put_if(out, at, p.h, 0x04);
     put(out, at, (0xFC + p.ret) as u8)
 }
 
 // The pop and the return at the end of an epilogue.
-fn leave(out: &mut [u8; 16], at: usize, p: Packed, registers: u32) -> usize
-    requires { ⌜ Fit p × (registers < 8192) ⌝ }
-    ensures { λ r. ⌜ (now (out .exit), r) ≡ puts (now (out .entry), at) (leaveOf p registers) ⌝ }
+fn leave(out: &mut [u8; 16], at: usize, p: Packed, list: u32) -> usize
+    requires { ⌜ Fit p × (list ≡ bits 0 13 list + lrIf (p .l)) ⌝ }
+    ensures { λ r. ⌜ (now (out .exit), r) ≡ puts (now (out .entry), at) (leaveOf p (bits 0 13 list)) ⌝ }
 {
     if p.h == 1 && p.l == 1 {
-        return leave_loading(out, at, registers);
+        return leave_loading(out, at, list);
     }
     if p.ret == 0 {
-        let at = pop(out, at, registers < 256, registers, p.l);
+        let at = pop(out, at, list, true);
         return put(out, at, 0xFF);
     }
-    leave_jumping(out, at, p, registers)
+    leave_jumping(out, at, p, list)
 }
 
 // The epilogue's codes, unless Ret=3.
@@ -214,9 +219,10 @@ fn second_list(out: &mut [u8; 16], at: usize, word: u32) -> usize
         return at;
     }
     let fold = ef(p);
+    let list = registers(word, fold);
     let at = adjust(out, at, p, fold);
     let at = vpop(out, at, p);
-    leave(out, at, p, integers(word, fold))
+    leave(out, at, p, list)
 }
 
 // Both lists of a word.

@@ -2,7 +2,7 @@
 
 use std::fmt;
 
-use peer::machine::PC;
+use peer::machine::{Undo, LR, PC};
 use peer::packed::Packed;
 use peer::pdata;
 use peer::report::Report;
@@ -43,6 +43,7 @@ const PLACE: &str = "place of the first frame";
 const LATER_PLACE: &str = "place of later frames";
 const HANDLER: &str = "handler at";
 const ROW: &str = "code run";
+const POPPED: &str = "register popped";
 const PACKED: &str = "packed Flag";
 const PACKED_FIELDS: &str = "packed Ret H L C R";
 const PACKED_SAVED: &str = "packed saved";
@@ -64,6 +65,10 @@ impl Histogram {
             Group::new(LATER_PLACE, places),
             Group::new(HANDLER, places),
             Group::new(ROW, ROWS.map(|(_, name)| name)),
+            Group::new(
+                POPPED,
+                POPS.into_iter().flat_map(|(row, most)| popped(row, most).chain(popped(row, 0))),
+            ),
             Group::new(PACKED, ["1", "2"]),
             Group::new(PACKED_FIELDS, sound_fields()),
             Group::new(PACKED_SAVED, saved),
@@ -115,8 +120,12 @@ impl Histogram {
         if caller.handler != 0 {
             self.count(HANDLER, place);
         }
-        for code in caller.ran.iter().filter_map(|instruction| instruction.code) {
-            self.count(ROW, row(code));
+        for instruction in &caller.ran {
+            let Some(row) = instruction.code.map(row) else { continue };
+            self.count(ROW, row);
+            if let Undo::Pop(list) = instruction.undo {
+                popped(row, list).for_each(|class| self.count(POPPED, &class));
+            }
         }
         match packed {
             Some(packed) => {
@@ -206,6 +215,19 @@ const ROWS: [(u8, &str); 17] = [
 pub fn row(code: u8) -> &'static str {
     let found = ROWS.iter().find(|(last, _)| code <= *last);
     found.map_or("", |(_, name)| name)
+}
+
+/// The rows that pop, each with the longest list that it can make.
+const POPS: [(&str, u32); 4] =
+    [("80-BF", 0x5fff), ("D0-D7", 0x40f0), ("D8-DF", 0x4ff0), ("EC-ED", 0x40ff)];
+
+/// A list that a row made, register by register; a list without LR is a class too.
+fn popped(row: &str, list: u32) -> impl Iterator<Item = String> + use<'_> {
+    let listed = (0..LR)
+        .filter(move |number| list >> number & 1 == 1)
+        .map(move |number| format!("{row} r{number}"));
+    let link = if list >> LR & 1 == 1 { "lr" } else { "no lr" };
+    listed.chain([format!("{row} {link}")])
 }
 
 /// Kinds of Stack Adjust by their last value.

@@ -5,7 +5,7 @@ use mathlib.Core.Logic.{inl, inr}
 use native.Mathlib.Omega.{arith}
 use borrow.Author.Needs.{needs}
 use borrow.Author.Tests.{le-leb}
-use Rattle.codes.proofs.Registers.{from-r4}
+use Rattle.codes.proofs.Registers.{from-r4, bit-number}
 use Rattle.codes.proofs.Meanings.{row-00, row-80, row-C0, row-D0, row-D8, row-E0, row-E8, row-EC, row-EE, row-EF, row-F5, row-F6, row-F7, row-F8, row-FB, row-FD}
 use Rattle.codes.proofs.means.Statement.{statement}
 use Rattle.codes.proofs.means.Tie as tie
@@ -47,42 +47,42 @@ returns-6 c =
 returns-7 : tie.Need-returns-7
 returns-7 c =
     let a = c .before .before .before .before .before .before .before .args in
-    c .pop .ensures ∙ rw (c .before .before .bits10 .ensures .0, c .before .bits11 .ensures .0) (row-80 (a .b) (a .v) (omega arith) (omega arith))
+    c .pop .ensures ∙ rw (c .before .before .bits10 .ensures .0, c .before .bit .ensures, bit-number 13 (a .v)) (row-80 (a .b) (a .v) (omega arith) (omega arith))
 
 returns-8 : tie.Need-returns-8
 returns-8 c =
     let a = c .before .before .before .before .before .before .before .args in
-    c .sp-from .ensures ∙ rw (c .before .bits12 .ensures .0) (row-C0 (a .b) (a .v) (omega arith) (omega arith))
+    c .sp-from .ensures ∙ rw (c .before .bits11 .ensures .0) (row-C0 (a .b) (a .v) (omega arith) (omega arith))
 
 returns-9 : tie.Need-returns-9
 returns-9 c =
     let a = c .before .before .before .before .before .before .before .before .before .before .args in
-    let x = 4 + c .before .before .before .bits13 .result in
+    let x = 4 + c .before .before .before .bits12 .result in
     let l = c .before .before .from-r4 .ensures .0 ∙ sym (from-r4 x (omega arith) (omega arith)) in
-    c .pop2 .ensures ∙ rw (l, c .before .before .before .bits13 .ensures .0, c .before .bits14 .ensures .0) (row-D0 (a .b) (a .v) (omega arith) (omega arith))
+    c .pop2 .ensures ∙ rw (l, c .before .before .before .bits12 .ensures .0, c .before .bit2 .ensures, bit-number 2 (a .v)) (row-D0 (a .b) (a .v) (omega arith) (omega arith))
 
 returns-10 : tie.Need-returns-10
 returns-10 c =
     let a = c .before .before .before .before .before .before .before .before .before .before .before .args in
-    let x = 8 + c .before .before .before .bits15 .result in
+    let x = 8 + c .before .before .before .bits13 .result in
     let l = c .before .before .from-r42 .ensures .0 ∙ sym (from-r4 x (omega arith) (omega arith)) in
-    c .pop3 .ensures ∙ rw (l, c .before .before .before .bits15 .ensures .0, c .before .bits16 .ensures .0) (row-D8 (a .b) (a .v) (omega arith) (omega arith))
+    c .pop3 .ensures ∙ rw (l, c .before .before .before .bits13 .ensures .0, c .before .bit3 .ensures, bit-number 2 (a .v)) (row-D8 (a .b) (a .v) (omega arith) (omega arith))
 
 returns-11 : tie.Need-returns-11
 returns-11 c =
     let a = c .before .before .before .before .before .before .before .before .before .args in
-    let h : 8 ≤ 8 + c .before .bits17 .result = omega arith in
-    rw (le-leb _ _ h) at (c .vpop3 .ensures) ∙ rw (c .before .bits17 .ensures .0) (row-E0 (a .b) (a .v) (omega arith) (omega arith))
+    let h : 8 ≤ 8 + c .before .bits14 .result = omega arith in
+    rw (le-leb _ _ h) at (c .vpop3 .ensures) ∙ rw (c .before .bits14 .ensures .0) (row-E0 (a .b) (a .v) (omega arith) (omega arith))
 
 returns-12 : tie.Need-returns-12
 returns-12 c =
     let a = c .before .before .before .before .before .args in
-    c .up4 .ensures ∙ rw (c .before .bits18 .ensures .0) (row-E8 (a .b) (a .v) (omega arith) (omega arith))
+    c .up4 .ensures ∙ rw (c .before .bits15 .ensures .0) (row-E8 (a .b) (a .v) (omega arith) (omega arith))
 
 returns-13 : tie.Need-returns-13
 returns-13 c =
     let a = c .before .before .before .before .before .before .before .args in
-    c .pop4 .ensures ∙ rw (c .before .before .bits19 .ensures .0, c .before .bits20 .ensures .0) (row-EC (a .b) (a .v) (omega arith) (omega arith))
+    c .pop4 .ensures ∙ rw (c .before .before .bits16 .ensures .0, c .before .bit4 .ensures, bit-number 8 (a .v)) (row-EC (a .b) (a .v) (omega arith) (omega arith))
 
 returns-14 : tie.Need-returns-14
 returns-14 c = let a = c .before .before .before .before .before .args in row-EE (a .b) (a .v) (omega arith) (omega arith) (c .before .before .before .before .match .rest .0 .0 .0 .0 .1)

@@ -1,6 +1,6 @@
 -- Each call writes one piece of the list, in the definition's order. Assumes nothing.
-use borrow.Author.Tests.{ltb-true}
 use borrow.Author.Needs.{needs}
+use Rattle.packed.proofs.IntegerLists.{word-others, word-lr, word-list}
 use Rattle.packed_codes.specs.PackedCodes.{firstList}
 use Rattle.packed_codes.proofs.Pieces.{read-fit}
 use Rattle.packed_codes.proofs.Buffer.{joined}
@@ -9,17 +9,21 @@ use Rattle.packed_codes.proofs.first_list.Tie as tie
 
 pop-requires : tie.Need-pop-requires
 pop-requires c κs =
-    let b = c .before .before .before .before .before .before .before in
-    (b .integers .ensures .1, read-fit _ _ (b .before .before .fields .ensures) .l, λ h. ltb-true _ _ h)
+    let b = c .before .before .before .before .before .before .before .before in
+    word-list (b .before .before .args .word) (b .pf .result) (c .registers .result) (c .registers .ensures)
 
 returns : tie.Need-returns
 unfolding firstList
 returns c =
-    let p = c .before .before .before .before in
-    let v = p .before .before .before .before in
+    let q = c .before .before .before .before in
+    let r = q .before in
+    let v = r .before .before .before .before in
     let b = v .before .before .before .before in
-    rw (b .integers .ensures .0, b .before .pf .ensures, b .before .before .fields .ensures) at
-    (joined _ _ _ (joined _ _ _ (joined _ _ _ (joined _ _ _ (joined _ _ _ (v .before .before .adjust .ensures) (v .vpop .ensures)) (p .before .before .put-if .ensures)) (p .pop .ensures)) (c .before .before .put-if2 .ensures)) (c .put .ensures))
+    let w = b .before .before .args .word in
+    let l = r .registers .result in
+    let e = r .registers .ensures in
+    rw (word-others w (b .pf .result) l e, word-lr w (b .pf .result) l e, b .pf .ensures, b .before .fields .ensures) at
+    (joined _ _ _ (joined _ _ _ (joined _ _ _ (joined _ _ _ (joined _ _ _ (v .before .before .adjust .ensures) (v .vpop .ensures)) (r .before .before .put-if .ensures)) (q .pop .ensures)) (c .before .before .put-if2 .ensures)) (c .put .ensures))
 
 pub first-list-spec : {M : Type 1} → statement M
 first-list-spec =
@@ -27,9 +31,9 @@ first-list-spec =
     (tie.spec
     (λ c κs. search needs)
     (λ c κs. search needs)
+    (λ c κs. read-fit _ _ (c .before .before .fields .ensures))
+    (λ c κs. read-fit _ _ (c .before .before .before .before .fields .ensures))
     (λ c κs. search needs)
-    (λ c κs. read-fit _ _ (c .before .before .before .fields .ensures))
-    (λ c κs. read-fit _ _ (c .before .before .before .before .before .fields .ensures))
     (λ c κs. search needs)
     pop-requires
     (λ c κs. search needs)
