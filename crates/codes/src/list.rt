@@ -2,15 +2,13 @@
 // (RULES 4.9); so a list is what the ARM manual calls `registers` in the push that a pop undoes. A list is a sum of ranges, bits of a code
 // and LR, which name no register twice: a packed word that would is refused (RULES 4.5). docs/POPS.md shows the line that makes each list,
 // and the lines that load one.
-use words::bits;
 ghost use mathlib.Core.Path.{_≡_};
 ghost use Prim.Native.Nat.{_<_};
 ghost use lib.Dec.{leb};
-ghost use Rattle.words.specs.Bits.{bits as bitsOf};
 ghost use Rattle.words.specs.Answer.{if_then_else_};
 ghost use Rattle.codes.specs.Table.{range as rangeOf, fromR4, lrIf};
 
-// ra to rb, for b up to 12; no register for others, or if b is below a.
+// ra to rb, where b is at most 12, so that SP and PC are in no range; no register if it is more, or below a.
 pub fn range(a: u32, b: u32) -> u32
     ensures { λ r. ⌜ (r ≡ (if leb b 12 then rangeOf a b else 0)) × (r < 8192) ⌝ }
 {
@@ -38,18 +36,4 @@ pub fn lr_if(listed: bool) -> u32
         return 16384;
     }
     0
-}
-
-// The registers of a list but LR.
-pub fn others(list: u32) -> u32
-    ensures { λ r. ⌜ (r ≡ bitsOf 0 13 list) × (r < 8192) ⌝ }
-{
-    bits(list, 0, 13)
-}
-
-// LR's bit of a list.
-pub fn lr_of(list: u32) -> u32
-    ensures { λ r. ⌜ (r ≡ bitsOf 14 1 list) × (r < 2) ⌝ }
-{
-    bits(list, 14, 1)
 }

@@ -7,7 +7,7 @@ use mathlib.Core.Bool.{Bool, true, false, _&&_, not}
 use mathlib.Core.Option.{Option, none, some}
 use lib.Dec.{eqb}
 use native.Mathlib.Omega.{arith}
-use borrow.Author.Tests.{eq-eqb, ne-eqb}
+use borrow.Author.Tests.{lt-ltb, le-ltb, eq-eqb, ne-eqb}
 use Rattle.words.specs.Bits.{bits}
 use Rattle.words.specs.Units.{stackWords}
 use Rattle.words.specs.Answer.{if_then_else_}
@@ -38,6 +38,14 @@ module _ (list : ℕ) (made : list ≡ bits 0 13 list + lrIf (bits 14 1 list)) (
 
   pub list-some : (list ≡ 0 → ⊥) → popSized w (bits 0 13 list) (bits 14 1 list) ≡ popCode w (bits 0 13 list) (bits 14 1 list)
   list-some n = rw (ne-eqb (bits 0 13 list + bits 14 1 list) 0 (λ z. n (omega arith))) refl
+
+-- r8-r12 of a list: none of them, and it has low registers only, or some
+module _ (list : ℕ) where
+  pub high-none : bits 8 5 list ≡ 0 → (low (bits 0 13 list) ≡ true) × (bits 0 8 list ≡ bits 0 13 list)
+  high-none h = (lt-ltb (bits 0 13 list) 256 (omega arith), omega arith)
+
+  pub high-some : (bits 8 5 list ≡ 0 → ⊥) → low (bits 0 13 list) ≡ false
+  high-some h = le-ltb (bits 0 13 list) 256 (omega (arith, h))
 
 -- the end of an epilogue
 pub leave-load :

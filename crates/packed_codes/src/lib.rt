@@ -1,8 +1,6 @@
 // The code bytes that a packed word stands for: the prologue's codes in reverse, and the epilogue's. It knows neither registers' values
 // nor the stack.
 use codes::list::from_r4;
-use codes::list::lr_of;
-use codes::list::others;
 use packed::Packed;
 use packed::allowed;
 use packed::amount;
@@ -14,12 +12,13 @@ use words::CodeBytes;
 use words::Refusal;
 use words::StackWords;
 use words::Verdict;
+use words::bits;
 ghost use mathlib.Core.Path.{_≡_};
 ghost use mathlib.Core.List.{_∷_, _++_, []};
 ghost use mathlib.Core.Bool.{true, false, _&&_, not};
 ghost use Prim.Native.Nat.{_+_, _≤_, _<_};
 ghost use lib.Dec.{eqb};
-ghost use Rattle.words.specs.Bits.{bits};
+ghost use Rattle.words.specs.Bits.{bits as bitsOf};
 ghost use Rattle.codes.specs.Table.{lrIf};
 ghost use Rattle.packed.specs.Packed.{Fit, fields as fieldsOf, amount as amountOf};
 ghost use Rattle.packed_codes.specs.PackedCodes.{when, upCode, vpopCode, upTo, popSized, popCode, low, firstList, leave as leaveOf, secondList, written, writeCodes, codesAnswer};
@@ -117,48 +116,46 @@ fn top_from(list: u32, first: u32) -> Top
     Top::Other
 }
 
-// The code of a pop of 16 bits, LR apart: D0-D7 for r4-rX, else EC-ED.
-fn pop16(out: &mut [u8; 16], at: usize, list: u32, lr: u32) -> usize
-    requires { ⌜ (list < 256) × (lr < 2) ⌝ }
-    ensures { λ r. ⌜ (now (out .exit), r) ≡ puts (now (out .entry), at) (popSized true list lr) ⌝ }
+// The code of a pop of 16 bits, by LR's bit and the others of the list: D0-D7 for r4-rX, else EC-ED.
+fn pop16(out: &mut [u8; 16], at: usize, others: u32, lr: u32) -> usize
+    requires { ⌜ (others < 256) × (lr < 2) ⌝ }
+    ensures { λ r. ⌜ (now (out .exit), r) ≡ puts (now (out .entry), at) (popSized true others lr) ⌝ }
 {
-    match top_from(list, 4) {
+    match top_from(others, 4) {
         Top::Register(x) => put(out, at, (0xD0 + x % 4 + 4 * lr) as u8),
         Top::Other => {
             let at = put(out, at, (0xEC + lr) as u8);
-            put(out, at, list as u8)
+            put(out, at, others as u8)
         }
     }
 }
 
-// The code of a pop of 32 bits, LR apart: D8-DF for r4-rX, else 80-BF.
-fn pop32(out: &mut [u8; 16], at: usize, list: u32, lr: u32) -> usize
-    requires { ⌜ (list < 8192) × (lr < 2) ⌝ }
-    ensures { λ r. ⌜ (now (out .exit), r) ≡ puts (now (out .entry), at) (popSized false list lr) ⌝ }
+// The code of a pop of 32 bits, by LR's bit and the others of the list: D8-DF for r4-rX, else 80-BF.
+fn pop32(out: &mut [u8; 16], at: usize, others: u32, lr: u32) -> usize
+    requires { ⌜ (others < 8192) × (lr < 2) ⌝ }
+    ensures { λ r. ⌜ (now (out .exit), r) ≡ puts (now (out .entry), at) (popSized false others lr) ⌝ }
 {
-    match top_from(list, 8) {
+    match top_from(others, 8) {
         Top::Register(x) => put(out, at, (0xD8 + x % 4 + 4 * lr) as u8),
         Top::Other => {
-            let at = put(out, at, (0x80 + list / 256 + 32 * lr) as u8);
-            put(out, at, (list % 256) as u8)
+            let at = put(out, at, (0x80 + others / 256 + 32 * lr) as u8);
+            put(out, at, (others % 256) as u8)
         }
     }
 }
 
-// The code of a pop, if the list is not empty. It has 16 bits if it may (`narrow`) and no register but LR is above r7 (RULES 4.12).
+// The code of a pop, if the list is not empty. It has 16 bits if it may (`narrow`) and none of r8-r12 is listed (RULES 4.12).
 fn pop(out: &mut [u8; 16], at: usize, list: u32, narrow: bool) -> usize
-    requires { ⌜ list ≡ bits 0 13 list + lrIf (bits 14 1 list) ⌝ }
-    ensures { λ r. ⌜ (now (out .exit), r) ≡ puts (now (out .entry), at) (popCode (narrow && low (bits 0 13 list)) (bits 0 13 list) (bits 14 1 list)) ⌝ }
+    requires { ⌜ list ≡ bitsOf 0 13 list + lrIf (bitsOf 14 1 list) ⌝ }
+    ensures { λ r. ⌜ (now (out .exit), r) ≡ puts (now (out .entry), at) (popCode (narrow && low (bitsOf 0 13 list)) (bitsOf 0 13 list) (bitsOf 14 1 list)) ⌝ }
 {
     if list == 0 {
         return at;
     }
-    let bare = others(list);
-    let lr = lr_of(list);
-    if narrow && bare < 256 {
-        return pop16(out, at, bare, lr);
+    if narrow && bits(list, 8, 5) == 0 {
+        return pop16(out, at, bits(list, 0, 8), bits(list, 14, 1));
     }
-    pop32(out, at, bare, lr)
+    pop32(out, at, bits(list, 0, 13), bits(list, 14, 1))
 }
 
 // The first list: the prologue's codes in reverse, and FF (RULES 4.16).
@@ -177,9 +174,9 @@ fn first_list(out: &mut [u8; 16], at: usize, word: u32) -> usize
 
 // The pop, which LR leaves, and the return by a load (RULES 4.8).
 fn leave_loading(out: &mut [u8; 16], at: usize, list: u32) -> usize
-    ensures { λ r. ⌜ (now (out .exit), r) ≡ puts (now (out .entry), at) (popCode (low (bits 0 13 list)) (bits 0 13 list) 0 ++ (0xEF ∷ 0x05 ∷ 0xFF ∷ [])) ⌝ }
+    ensures { λ r. ⌜ (now (out .exit), r) ≡ puts (now (out .entry), at) (popCode (low (bitsOf 0 13 list)) (bitsOf 0 13 list) 0 ++ (0xEF ∷ 0x05 ∷ 0xFF ∷ [])) ⌝ }
 {
-    let at = pop(out, at, others(list), true);
+    let at = pop(out, at, bits(list, 0, 13), true);
     let at = put(out, at, 0xEF);
     let at = put(out, at, 0x05);
     put(out, at, 0xFF)
@@ -187,8 +184,8 @@ fn leave_loading(out: &mut [u8; 16], at: usize, list: u32) -> usize
 
 // The pop, which has 32 bits with LR in it (RULES 4.12), and the return by a branch (RULES 4.10).
 fn leave_jumping(out: &mut [u8; 16], at: usize, p: Packed, list: u32) -> usize
-    requires { ⌜ Fit p × (list ≡ bits 0 13 list + lrIf (p .l)) ⌝ }
-    ensures { λ r. ⌜ (now (out .exit), r) ≡ puts (now (out .entry), at) (popCode (low (bits 0 13 list) && eqb (p .l) 0) (bits 0 13 list) (p .l) ++ when (eqb (p .h) 1) (0x04 ∷ []) ++ ((0xFC + p .ret) ∷ [])) ⌝ }
+    requires { ⌜ Fit p × (list ≡ bitsOf 0 13 list + lrIf (p .l)) ⌝ }
+    ensures { λ r. ⌜ (now (out .exit), r) ≡ puts (now (out .entry), at) (popCode (low (bitsOf 0 13 list) && eqb (p .l) 0) (bitsOf 0 13 list) (p .l) ++ when (eqb (p .h) 1) (0x04 ∷ []) ++ ((0xFC + p .ret) ∷ [])) ⌝ }
 {
     let at = pop(out, at, list, p.l == 0);
     let at = put_if(out, at, p.h, 0x04);
@@ -197,8 +194,8 @@ fn leave_jumping(out: &mut [u8; 16], at: usize, p: Packed, list: u32) -> usize
 
 // The pop and the return at the end of an epilogue.
 fn leave(out: &mut [u8; 16], at: usize, p: Packed, list: u32) -> usize
-    requires { ⌜ Fit p × (list ≡ bits 0 13 list + lrIf (p .l)) ⌝ }
-    ensures { λ r. ⌜ (now (out .exit), r) ≡ puts (now (out .entry), at) (leaveOf p (bits 0 13 list)) ⌝ }
+    requires { ⌜ Fit p × (list ≡ bitsOf 0 13 list + lrIf (p .l)) ⌝ }
+    ensures { λ r. ⌜ (now (out .exit), r) ≡ puts (now (out .entry), at) (leaveOf p (bitsOf 0 13 list)) ⌝ }
 {
     if p.h == 1 && p.l == 1 {
         return leave_loading(out, at, list);

@@ -7,13 +7,13 @@ use Rattle.packed_codes.proofs.leave_loading.Statement.{statement}
 use Rattle.packed_codes.proofs.leave_loading.Tie as tie
 
 pop-requires : tie.Need-pop-requires
-pop-requires c κs = omega (arith, c .others .ensures .1)
+pop-requires c κs = omega (arith, c .bits .ensures .1)
 
 returns : tie.Need-returns
 returns c =
     let u = c .before .before .before .before in
     let q = u .before .before in
-    let o = q .before .others in
+    let o = q .before .bits in
     let small = o .ensures .1 in
     rw (bare-others (o .result) small, bare-lr (o .result) small, o .ensures .0) at
     (joined _ _ _ (q .pop .ensures) (joined _ _ _ (u .put .ensures) (joined _ _ _ (c .before .before .put2 .ensures) (c .put3 .ensures))))
