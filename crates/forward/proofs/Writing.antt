@@ -8,10 +8,11 @@ use lib.Dec.{ltb, eqb}
 use lib.ListN.{getD, set, length-set}
 use lib.Seq.{getD-set-same, getD-set-other}
 use native.Mathlib.Omega.{arith}
-use borrow.Author.Tests.{eqb-true, eqb-false, ne-eqb, ltb-true, ltb-false}
+use borrow.Author.Tests.{eqb-false, ne-eqb, ltb-true, ltb-false}
 use Rattle.words.specs.Answer.{if_then_else_}
 use Rattle.machine.specs.Registers.{reg, setReg, setD}
 use Rattle.machine.specs.declared.Regs.{Regs}
+use Rattle.machine.proofs.Written.{reg-same, reg-other}
 use Rattle.forward.specs.Registers.{value}
 use Rattle.forward.specs.State.{Whole}
 use Rattle.forward.proofs.Ops.{upd, upd-cases}
@@ -24,23 +25,9 @@ whole-d {g} x v w = record { r = w .r; d = length-set (g .d) x v ∙ w .d }
 
 -- an integer register or LR
 written-r : (g : Regs) (x v y : ℕ) → Whole g → x < 15 → x ≢ 13 → y < 16 → reg (setReg g x v) y ≡ upd (reg g) x v y
-written-r g x v y w l n h = upd-cases (λ z. reg (setReg g x v) y ≡ z) (reg g) x v y same other
-  where
-    same : y ≡ x → reg (setReg g x v) y ≡ v
-    same e = rw e (go (eqb x 14) refl)
-      where
-        go : (t : Bool) → eqb x 14 ≡ t → (if t then (if t then v else g .lr) else getD (set (g .r) x v) x 0) ≡ v
-        go true q = refl
-        go false q = getD-set-same (g .r) x v 0 (omega (arith, w .r, eqb-false x 14 q))
-
-    other : y ≢ x → reg (setReg g x v) y ≡ reg g y
-    other e = go (eqb y 14) refl
-      where
-        go :
-            (t : Bool) → eqb y 14 ≡ t
-            → (if t then (if eqb x 14 then v else g .lr) else getD (set (g .r) x v) y 0) ≡ (if t then g .lr else getD (g .r) y 0)
-        go true q = let ne : x ≢ 14 = λ f. omega (arith, eqb-true y 14 q) in rw (ne-eqb x 14 ne) refl
-        go false q = getD-set-other (g .r) x y v 0 e
+written-r g x v y w l n h =
+    upd-cases (λ z. reg (setReg g x v) y ≡ z) (reg g) x v y
+    (λ e. rw e (reg-same g x v (λ q. omega (arith, w .r, eqb-false x 14 q)))) (reg-other g x y v)
 
 pub value-reg : (g : Regs) (x v : ℕ) → Whole g → x < 15 → x ≢ 13 → value (setReg g x v) ≡ upd (value g) x v
 value-reg g x v w l n = fun-ext (λ y. go y (ltb y 16) refl)

@@ -3,6 +3,7 @@ pub mod Answers
 pub mod Loading
 pub mod Popping
 pub mod Listed
+pub mod Written
 pub mod Rising
 pub mod Standing
 pub mod Refusing

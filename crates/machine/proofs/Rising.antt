@@ -6,13 +6,12 @@ use mathlib.Core.Path.{_≡_, refl, sym, ap, subst, _∙_}
 use mathlib.Core.Bool.{Bool, true, false}
 use mathlib.Core.Logic.{_≢_}
 use lib.Dec.{eqb}
-use lib.ListN.{length, getD, set, length-set}
-use lib.Seq.{getD-set-same, getD-set-other}
+use lib.ListN.{length, length-set}
 use native.Mathlib.Omega.{arith}
-use borrow.Author.Tests.{eq-eqb, ne-eqb, eqb-true, eqb-false}
+use borrow.Author.Tests.{eqb-true, eqb-false}
 use Rattle.words.specs.Bits.{bit}
 use Rattle.words.specs.declared.Refusal.the-variants.{BadStack}
-use Rattle.words.specs.Answer.{Res, ok, refuse, _>>=_, if_then_else_}
+use Rattle.words.specs.Answer.{Res, ok, refuse, _>>=_}
 use Rattle.lent.specs.Lent.{Lent, holds, wordAt}
 use Rattle.machine.specs.Registers.{reg, setReg, setSp}
 use Rattle.machine.specs.Step.{popReg, pop}
@@ -21,25 +20,7 @@ use Rattle.machine.specs.declared.Regs.{Regs}
 use Rattle.machine.proofs.Loading.{load-held, load-none}
 use Rattle.machine.proofs.Listed.{words-none, words-with, words-without}
 use Rattle.machine.proofs.Popping.{listed, pop-none, pop-next}
-
--- a register that has a place: r0-r12 or LR
-abbrev Placed : Regs → ℕ → Type 0
-Placed g x = (eqb x 14 ≡ false → x < length (g .r))
-
--- writing one register: it holds the word, and another keeps what it had
-reg-same : (g : Regs) (x w : ℕ) → Placed g x → reg (setReg g x w) x ≡ w
-reg-same g x w p = go (eqb x 14) refl
-  where
-    go : (t : Bool) → eqb x 14 ≡ t → reg (setReg g x w) x ≡ w
-    go true e = rw e refl
-    go false e = rw e (getD-set-same (g .r) x w 0 (p e))
-
-reg-other : (g : Regs) (x y w : ℕ) → y ≢ x → reg (setReg g x w) y ≡ reg g y
-reg-other g x y w n = go (eqb y 14) refl
-  where
-    go : (t : Bool) → eqb y 14 ≡ t → reg (setReg g x w) y ≡ reg g y
-    go true e = rw (e, ne-eqb x 14 (λ (q : x ≡ 14). n (eqb-true y 14 e ∙ sym q))) refl
-    go false e = rw e (getD-set-other (g .r) x y w 0 n)
+use Rattle.machine.proofs.Written.{Placed, reg-same, reg-other}
 
 module _ (k : Lent) (l : ℕ) (g : Regs) where
   -- after the registers below n
