@@ -20,7 +20,8 @@ use Rattle.forward.proofs.Back.{St, SpAt, Inv}
 use Rattle.forward.proofs.Flat.{ops, flat, need-cases, lasting-range}
 use Rattle.forward.proofs.Steps.{seen, value-same}
 use Rattle.forward.proofs.Memory.{outside-same}
-use Rattle.forward.proofs.Undoing.{Sound, AllSound, effects}
+use Rattle.codes.proofs.Sound.{Sound}
+use Rattle.forward.proofs.Undoing.{AllSound, effects}
 
 -- registers that undoing cannot tell apart
 inv-like :

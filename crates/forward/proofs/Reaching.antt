@@ -39,7 +39,8 @@ use Rattle.forward.specs.Met as Meeting
 use Rattle.forward.proofs.Back.{St, Inv, inv-near}
 use Rattle.forward.proofs.Flat.{ops, flat}
 use Rattle.forward.proofs.Steps.{seen, st, done-fits, inv-body}
-use Rattle.forward.proofs.Undoing.{Sound, SoundCode, AllSound, effects}
+use Rattle.codes.proofs.Sound.{Sound}
+use Rattle.forward.proofs.Undoing.{SoundCode, AllSound, effects}
 use Rattle.forward.proofs.Leaving.{left-stack, inv-left}
 use Rattle.forward.proofs.Memory.{outside-same}
 use Rattle.forward.proofs.Scanned.{codes-sound}

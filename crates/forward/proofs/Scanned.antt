@@ -10,14 +10,10 @@ use Rattle.words.specs.Answer.{ok}
 use Rattle.unwinding.specs.CodeList.{Codes}
 use Rattle.codes.specs.Code.{codesAt}
 use Rattle.codes.specs.declared.Code.{Code}
-use Rattle.codes.specs.declared.Undo.{Undo}
-use Rattle.codes.specs.declared.Undo.the-variants.{Up, Pop, SpFrom, Vpop, LoadLr, Nothing}
 use Rattle.unwinding.proofs.Scanning.{codes-all}
-use Rattle.codes.proofs.Registers.{list-no-sp}
 use Rattle.codes.proofs.Scanning.{took, takes}
-use Rattle.codes.proofs.Sound as Table
 use Rattle.codes.proofs.Sound.{sound-code}
-use Rattle.forward.proofs.Undoing.{Sound, SoundCode, AllSound}
+use Rattle.forward.proofs.Undoing.{SoundCode, AllSound}
 
 -- numbers below four
 pub fourth : (P : ℕ → Type 0) → P 0 → P 1 → P 2 → P 3 → (x : ℕ) → x < 4 → P x
@@ -27,15 +23,6 @@ fourth P a b c d (suc (suc zero)) h = c
 fourth P a b c d (suc (suc (suc zero))) h = d
 fourth P a b c d (suc (suc (suc (suc x)))) h = absurd (let z : suc (suc (suc (suc x))) < 4 = h in omega arith)
 
--- of a list only that it has not SP is needed here
-sound : (u : Undo) → Table.Sound u → Sound u
-sound (Up n) s = s
-sound (Pop l) s = list-no-sp l s
-sound (SpFrom x) s = s
-sound (Vpop a e) s = s
-sound (LoadLr n) s = s
-sound Nothing s = s
-
--- and so of each code of a list
+-- each code of a list
 pub codes-sound : (s : List ℕ) (i : CodeBytes) (c : Codes Code) → codesAt s i ≡ ok c → AllSound (c .list)
-codes-sound s = codes-all takes SoundCode s (λ j c next e. sound (c .undo) (sound-code _ _ (c .undo) (took j (drop j s) e .means)))
+codes-sound s = codes-all takes SoundCode s (λ j c next e. sound-code _ _ (c .undo) (took j (drop j s) e .means))

@@ -17,6 +17,8 @@ use Rattle.unwinding.proofs.All.{All}
 use Rattle.codes.specs.declared.Code.{Code}
 use Rattle.codes.specs.declared.Undo.{Undo}
 use Rattle.codes.specs.declared.Undo.the-variants.{Up, Pop, SpFrom, Vpop, LoadLr, Nothing}
+use Rattle.codes.proofs.Registers.{list-no-sp}
+use Rattle.codes.proofs.Sound.{Sound}
 use Rattle.machine.specs.Registers.{reg, setReg, setD, setSp}
 use Rattle.machine.specs.Step.{stands, load as loadWord, popReg, popD, pop, vpop, effect, step}
 use Rattle.machine.specs.declared.Regs.{Regs}
@@ -30,15 +32,7 @@ use Rattle.forward.proofs.Memory.{outside-below}
 use Rattle.forward.proofs.Steps.{seen}
 use Rattle.forward.proofs.Writing.{whole-reg, whole-d, value-reg, value-d}
 
--- what the table's codes are: no list holds SP, SP is taken from a register that has a number below 16, and d registers have numbers below 32
-abbrev pub Sound : Undo → Type 0
-Sound (Up n) = Unit {0}
-Sound (Pop l) = bit 13 l ≡ false
-Sound (SpFrom x) = x < 16
-Sound (Vpop s e) = e < 32
-Sound (LoadLr n) = Unit {0}
-Sound Nothing = Unit {0}
-
+-- codes that are the table's
 abbrev pub SoundCode : Code → Type 0
 SoundCode c = Sound (c .undo)
 
@@ -165,7 +159,7 @@ module _ (k : Lent) (e : St) (al : e .sp % 4 ≡ 0) (top : e .sp ≤ end k) wher
       → Undone (λ k′ g. effect k′ u g) cs g
   effects (Up n) cs g s w v =
       record { next = setSp g (g .sp + 4 * n .0); whole = record { r = w .r; d = w .d }; runs = λ k′ o. refl; inv = back (k .base) e al v }
-  effects (Pop l) cs g s w v = pops l 15 cs g s (omega arith) w v
+  effects (Pop l) cs g s w v = pops l 15 cs g (list-no-sp l s) (omega arith) w v
   effects (SpFrom x) cs g s w v =
       let same : value g x ≡ reg g x = rw (lt-ltb x 16 s) refl in
       record {
