@@ -39,7 +39,7 @@ fn start_of(start: Start, span: u64, size: u64) -> u64
 }
 
 // The bytes of so many halfwords of instructions, as a pass counts them.
-fn bytes_of(count: u64) -> u64
+pub fn bytes_of(count: u64) -> u64
     requires { ⌜ count < 4096 ⌝ }
     ensures { λ r. ⌜ r ≡ halfwordBytes (halfwords count) ⌝ }
 {
@@ -134,7 +134,7 @@ pub fn span_of(plan: Plan) -> u64
 }
 
 // How many epilogues a record has, with its range.
-fn count_of(plan: Plan) -> usize
+pub fn count_of(plan: Plan) -> usize
     ensures { λ r. ⌜ (r ≡ plan .count) × (r < 2 ^ 64) ⌝ }
 {
     plan.count

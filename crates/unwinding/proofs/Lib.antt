@@ -18,3 +18,4 @@ pub mod Staying
 pub mod TwoWalks
 pub mod Singly
 pub mod OneWalk
+pub mod Mapping

@@ -1,0 +1,4 @@
+pub mod Equal
+pub mod Scanning
+pub mod Comparing
+pub mod Passing

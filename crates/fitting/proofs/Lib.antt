@@ -1,0 +1,5 @@
+pub mod Planned
+pub mod Whole
+pub mod Standing
+pub mod Lines
+pub mod Exact

@@ -1,0 +1,3 @@
+pub mod Immediate
+pub mod Rows
+pub mod Instruction
