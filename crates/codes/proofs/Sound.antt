@@ -1,12 +1,14 @@
--- What the table's codes are, row by row: a list that is popped is of r0-r12 and LR, whichever row made it; SP is taken from a register whose
--- number is below 16; d registers have numbers below 32.
+-- What the table's codes are, row by row: a list that is popped is of r0-r12 and LR, whichever row made it; SP is taken from a register other
+-- than SP and pc; d registers have numbers below 32.
 -- Assumes nothing.
 use Prim.Native.Nat.{ℕ, _+_, _<_}
-use mathlib.Core.Path.{_≡_, subst}
+use mathlib.Core.Path.{_≡_, refl, subst}
+use mathlib.Core.Logic.{_≢_}
 use mathlib.Core.List.{List, [], _∷_}
 use mathlib.Core.Bool.{Bool, true, false, _||_}
 use lib.Dec.{leb, eqb}
 use native.Mathlib.Omega.{arith}
+use borrow.Author.Tests.{eqb-false}
 use Rattle.words.specs.Bits.{bits}
 use Rattle.words.specs.Units.{stackWords}
 use Rattle.words.specs.Answer.{if_then_else_}
@@ -19,7 +21,7 @@ use Rattle.codes.proofs.Registers.{RegisterList, range-small, joined-li
 abbrev pub Sound : Undo → Type 0
 Sound (Up n) = Unit {0}
 Sound (Pop l) = RegisterList l
-Sound (SpFrom x) = x < 16
+Sound (SpFrom x) = (x < 15) × (x ≢ 13)
 Sound (Vpop s e) = e < 32
 Sound (LoadLr n) = Unit {0}
 Sound Nothing = Unit {0}
@@ -48,9 +50,14 @@ says-if : (t : Bool) (w u : Undo) → Sound w → (if t then Does w else Undefin
 says-if true w u s h = says w u s h
 says-if false w u s h = no-does u h
 
-says-unless : (t : Bool) (w u : Undo) → Sound w → (if t then Undefined else Does w) ≡ Does u → Sound u
-says-unless true w u s h = no-does u h
-says-unless false w u s h = says w u s h
+-- SP is taken from a register, but not from SP or pc
+says-from : (x : ℕ) (u : Undo) → x < 16 → (if eqb x 13 || eqb x 15 then Undefined else Does (SpFrom x)) ≡ Does u → Sound u
+says-from x u l h = go (eqb x 13) (eqb x 15) refl refl h
+  where
+    go : (s t : Bool) → eqb x 13 ≡ s → eqb x 15 ≡ t → (if s || t then Undefined else Does (SpFrom x)) ≡ Does u → Sound u
+    go true t p q h = no-does u h
+    go false true p q h = no-does u h
+    go false false p q h = says (SpFrom x) u (omega (arith, eqb-false x 15 q), eqb-false x 13 p) h
 
 -- a pop of registers and, by a bit of the code, LR
 pops : (l : ℕ) → l < 8192 → (k v : ℕ) (u : Undo) → Does (Pop (l + lrIf (bits k 1 v))) ≡ Does u → Sound u
@@ -61,7 +68,7 @@ unfolding rows
 sound-rows =
     (λ v u. says (Up (stackWords (bits 0 7 v))) u tt)
     & (λ v u. pops (bits 0 13 v) (omega arith) 13 v u)
-    & (λ v u. says-unless (eqb (bits 0 4 v) 13 || eqb (bits 0 4 v) 15) (SpFrom (bits 0 4 v)) u (omega arith))
+    & (λ v u. says-from (bits 0 4 v) u (omega arith))
     & (λ v u. pops (range 4 (4 + bits 0 2 v)) (range-small 4 (4 + bits 0 2 v) (omega arith)) 2 v u)
     & (λ v u. pops (range 4 (8 + bits 0 2 v)) (range-small 4 (8 + bits 0 2 v) (omega arith)) 2 v u)
     & (λ v u. says (Vpop 8 (8 + bits 0 3 v)) u (omega arith))

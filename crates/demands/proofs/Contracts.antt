@@ -25,6 +25,7 @@ use Rattle.walking.specs.declared.WalkedAll.{WalkedAll}
 use Rattle.walking.proofs.walk as Walk
 use Rattle.text.specs.Overlay.{overlay}
 use Rattle.report.specs.as_coded.Parts.{parts}
+use Rattle.fit_file.specs.as_coded.Parts as FitParts
 use Rattle.pdata.proofs.find.Kinds as Find·kinds
 use Rattle.pdata.proofs.find.Reads as Find
 use Rattle.frame.proofs.unwind.Kinds as Unwind·kinds
@@ -49,6 +50,12 @@ use Rattle.region_text.proofs.put_regions.Kinds as Lines·kinds
 use Rattle.region_text.proofs.put_regions.Reads as Lines
 use Rattle.outlining.proofs.outline_report.Kinds as Outline·kinds
 use Rattle.outlining.proofs.outline_report.Reads as Outline
+use Rattle.fitting.proofs.check.Kinds as Fits·kinds
+use Rattle.fitting.proofs.check.Reads as Fits
+use Rattle.fit_file.proofs.read_fit.Kinds as ReadFit·kinds
+use Rattle.fit_file.proofs.read_fit.Reads as ReadFit
+use Rattle.fits_text.proofs.answer_fits.Kinds as FitsText·kinds
+use Rattle.fits_text.proofs.answer_fits.Reads as FitsText
 use Rattle.exports.proofs.leafbobbin_walk.Kinds as CWalk·kinds
 use Rattle.exports.proofs.leafbobbin_walk.Reads as CWalk
 use Rattle.exports.proofs.leafbobbin_caller.Kinds as CCaller·kinds
@@ -64,6 +71,7 @@ use Rattle.exports.proofs.leafbobbin_codes.Reads as CCodes
 use Rattle.regions.specs.as_coded.Table.{tableOf, listedIn}
 use Rattle.regions.proofs.Tables.{table-listed}
 use Rattle.demands.specs.Regions.{oursOfRegions}
+use Rattle.demands.specs.Fitting.{oursOfFits}
 use Rattle.exports.specs.Numbers.{foundNumbers, foundRefusal, fieldsIn, lengths}
 use Rattle.forward.specs.State.{State}
 use Rattle.forward.specs.Demand.{Asked, Answer, Demand3}
@@ -214,6 +222,34 @@ outline-gives κs a z e p = p .0
 
 pub outline-unique : Unique outline
 outline-unique = unique outline _ _ outline-gives
+
+-- ---- those of order 3: whether a record fits its code, a FIT file, its text
+abbrev pub fits : Contract
+fits = record { lifetimes = 2; params = Fits·kinds.ps; result = Fits·kinds.r; asks = Fits.Asked; free = λ κs a. tt; allows = Fits.Learnt; Left = Unit {0}; left = λ κs e. tt }
+
+pub fits-gives : Gives fits (λ κs a. oursOfFits .fits (lent (a .0) (now (a .1 .0))) (a .1 .1 .0) (now (a .1 .1 .1 .0))) (λ κs a. tt)
+fits-gives κs a z e p = (p, refl)
+
+pub fits-unique : Unique fits
+fits-unique = unique fits _ _ fits-gives
+
+abbrev pub read-fit : Contract
+read-fit = record { lifetimes = 1; params = ReadFit·kinds.ps; result = ReadFit·kinds.r; asks = ReadFit.Asked; free = λ κs a. tt; allows = ReadFit.Learnt; Left = Unit {0}; left = λ κs e. tt }
+
+pub read-fit-gives : Gives read-fit (λ κs a. FitParts.parts (now (a .0))) (λ κs a. tt)
+read-fit-gives κs a z e p = (p .0, refl)
+
+pub read-fit-unique : Unique read-fit
+read-fit-unique = unique read-fit _ _ read-fit-gives
+
+abbrev pub fits-text : Contract
+fits-text = record { lifetimes = 2; params = FitsText·kinds.ps; result = FitsText·kinds.r; asks = FitsText.Asked; free = λ κs a. tt; allows = FitsText.Learnt; Left = List ℕ; left = λ κs e. now (e .1 .0) }
+
+pub fits-text-gives : Gives fits-text (λ κs a. length (oursOfFits .text (now (a .0)))) (λ κs a. overlay (now (a .1 .0)) 0 (oursOfFits .text (now (a .0))))
+fits-text-gives κs a z e p = p .0
+
+pub fits-text-unique : Unique fits-text
+fits-text-unique = unique fits-text _ _ fits-text-gives
 
 -- ---- the two texts of a report, for C
 abbrev pub c-walk : Contract

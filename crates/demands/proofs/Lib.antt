@@ -13,3 +13,4 @@ pub mod Packing
 pub mod Contracts
 pub mod Regions
 pub mod RegionsWider
+pub mod Fitting

@@ -46,12 +46,15 @@ use Rattle.packed.specs.Packed.{fields, wordOf, fieldsFit, allowed, writeWord, 
 use Rattle.packed_codes.specs.PackedCodes.{written, writeCodes, codesAnswer}
 use Rattle.xdata.specs.Xdata.{fitXdata, recordBytes, scopeCount, shortHead, longHead, headAt, xdataSize, sizeAnswer}
 use Rattle.xdata.specs.Scopes.{scopesAt}
-use Rattle.record.specs.Record.{fullShape, packedShape, shapeOf}
+use Rattle.record.specs.Record.{fullShape, packedShape, shapeAt, shapeOf}
 use Rattle.frame.specs.Frame.{Inputs, fitStack, uncovered, within, byRecord, frameOf}
 use Rattle.walking.specs.Walk.{nextFrame}
 use Rattle.regions.specs.declared.RegionRefusal.{RegionRefusal}
 use Rattle.regions.specs.declared.RegionRefusal.the-variants.{Record, TableOutside, Crossed}
 use Rattle.regions.specs.Table.{regionNumber}
+use Rattle.fitting.specs.Fitting.{fitNumber}
+use Rattle.fitting.specs.declared.FitRefusal.{FitRefusal}
+use Rattle.fitting.specs.declared.FitRefusal.the-variants as Fit
 
 pub numbered : (r : Refusal) → 1 ≤ number r
 numbered UnfitInput = omega arith
@@ -80,7 +83,7 @@ module _ (P : ℕ → Type 0) where
   refused : {A : Type 0} (q : Refusal) → P (number q) → Only {A = A} P (refuse q)
   refused q h r e = let z : q ≡ r = cc in subst (λ x. P (number x)) z h
 
-  bound : {A B : Type 0} (x : Res A) (f : A → Res B) → Only P x → ((a : A) → Only P (f a)) → Only P (x >>= f)
+  pub bound : {A B : Type 0} (x : Res A) (f : A → Res B) → Only P x → ((a : A) → Only P (f a)) → Only P (x >>= f)
   bound (ok a) f h k = k a
   bound (refuse q) f h k = refused q (h q refl)
 
@@ -121,37 +124,37 @@ module _ (P : ℕ → Type 0) where
   unfolding writeCodes
   only-codes p4 w = needed (allowed (fields w)) Reserved _ p4 (given _)
 
+  only-scopes : P 4 → (x : Lent) (a k : ℕ) → Only P (scopesAt x a k)
+  unfolding scopesAt
+  only-scopes p4 x a zero = given []
+  only-scopes p4 x a (suc k) = needed (eqb (bits 18 2 (wordAt x a)) 0) Reserved _ p4 (bound (scopesAt x (a + 4) k) _ (only-scopes p4 x (a + 4) k) (λ l. given _))
+
+  pub only-shape : P 4 → P 5 → (x : Lent) (w : ℕ) → Only P (shapeAt x w)
+  unfolding fullShape packedShape
+  only-shape p4 p5 x w =
+      either-way (eqb (bits 0 2 w) 0) (fullShape x w) (packedShape w)
+      (bound (headAt x w) _ (only-head p4 p5 x w) (λ h. bound (scopesAt x (w + h .bytes) (scopeCount h)) _ (only-scopes p4 x (w + h .bytes) (scopeCount h)) (λ l. given _)))
+      (bound (writeCodes w) _ (only-codes p4 w) (λ c. given _))
+
+  only-scan : P 6 → (s : List ℕ) (i : CodeBytes) → Only P (scan s i .ending)
+  only-scan p6 s i = by-scan takes s (λ j x. Only P (x .ending)) (λ j c next r e h. h) (λ j n e. given n) (λ j k e. refused (BadCodes k) p6) i
+
+  only-list : P 6 → (s : List ℕ) (i : CodeBytes) → Only P (codesAt s i)
+  only-list p6 s i = bound (scan s i .ending) _ (only-scan p6 s i) (λ k. given _)
+
+  only-epilogues : P 6 → (s : Shape) (l : List Scope) → Only P (epilogues size codesAt s l)
+  unfolding epilogues
+  only-epilogues p6 s [] = given []
+  only-epilogues p6 s (e ∷ l) = bound (codesAt (s .codes) (e .index)) _ (only-list p6 (s .codes) (e .index)) (λ c. bound (epilogues size codesAt s l) _ (only-epilogues p6 s l) (λ rest. given _))
+
+  pub only-view : P 6 → P 7 → (s : Shape) → Only P (view size codesAt s)
+  unfolding view
+  only-view p6 p7 s =
+      bound (codesAt (s .codes) (codeBytes 0)) _ (only-list p6 (s .codes) (codeBytes 0))
+      (λ c. bound (epilogues size codesAt s (s .scopes)) _ (only-epilogues p6 s (s .scopes)) (λ es. needed (fits (s .span) (if s .fragment then 0 else total size (c .list)) es) BadLayout _ p7 (given _)))
+
 -- what one frame is made of
 module _ (P : ℕ → Type 0) (all : (k : ℕ) → k ≤ 11 → P k) where
-  up-scopes : (x : Lent) (a k : ℕ) → Only P (scopesAt x a k)
-  unfolding scopesAt
-  up-scopes x a zero = given P []
-  up-scopes x a (suc k) = needed P (eqb (bits 18 2 (wordAt x a)) 0) Reserved _ (all 4 (omega arith)) (bound P (scopesAt x (a + 4) k) _ (up-scopes x (a + 4) k) (λ l. given P _))
-
-  up-shape : (x : Lent) (e : Entry) → Only P (shapeOf x e)
-  unfolding fullShape packedShape
-  up-shape x e =
-      either-way P (eqb (bits 0 2 (e .word)) 0) (fullShape x (e .word)) (packedShape (e .word))
-      (bound P (headAt x (e .word)) _ (only-head P (all 4 (omega arith)) (all 5 (omega arith)) x (e .word)) (λ h. bound P (scopesAt x (e .word + h .bytes) (scopeCount h)) _ (up-scopes x (e .word + h .bytes) (scopeCount h)) (λ l. given P _)))
-      (bound P (writeCodes (e .word)) _ (only-codes P (all 4 (omega arith)) (e .word)) (λ c. given P _))
-
-  up-scan : (s : List ℕ) (i : CodeBytes) → Only P (scan s i .ending)
-  up-scan s i = by-scan takes s (λ j x. Only P (x .ending)) (λ j c next r e h. h) (λ j n e. given P n) (λ j k e. refused P (BadCodes k) (all 6 (omega arith))) i
-
-  up-codes : (s : List ℕ) (i : CodeBytes) → Only P (codesAt s i)
-  up-codes s i = bound P (scan s i .ending) _ (up-scan s i) (λ k. given P _)
-
-  up-epilogues : (s : Shape) (l : List Scope) → Only P (epilogues size codesAt s l)
-  unfolding epilogues
-  up-epilogues s [] = given P []
-  up-epilogues s (e ∷ l) = bound P (codesAt (s .codes) (e .index)) _ (up-codes (s .codes) (e .index)) (λ c. bound P (epilogues size codesAt s l) _ (up-epilogues s l) (λ rest. given P _))
-
-  up-view : (s : Shape) → Only P (view size codesAt s)
-  unfolding view
-  up-view s =
-      bound P (codesAt (s .codes) (codeBytes 0)) _ (up-codes (s .codes) (codeBytes 0))
-      (λ c. bound P (epilogues size codesAt s (s .scopes)) _ (up-epilogues s (s .scopes)) (λ es. needed P (fits (s .span) (if s .fragment then 0 else total size (c .list)) es) BadLayout _ (all 7 (omega arith)) (given P _)))
-
   up-left : (p : Place) (after o : ℕ) (cs : List Code) → Only P (left size p after o cs)
   unfolding left
   up-left p after o cs = go (endOf size after o cs)
@@ -203,7 +206,7 @@ module _ (P : ℕ → Type 0) (all : (k : ℕ) → k ≤ 11 → P k) where
   up-within : (k : Lent) (s : Shape) (o : ℕ) (g : Regs) → Only P (within k s o g)
   unfolding within
   up-within k s o g =
-      bound P (view size codesAt s) _ (up-view s)
+      bound P (view size codesAt s) _ (only-view P (all 6 (omega arith)) (all 7 (omega arith)) s)
       (λ v. bound P (todo size executing v o) _ (up-todo v o)
       (λ t. bound P (run (step k) (t .codes) g) _ (up-run k (t .codes) g) (λ h. needed P (leb (g .sp) (h .sp)) SpFell _ (all 11 (omega arith)) (given P _))))
 
@@ -215,7 +218,7 @@ module _ (P : ℕ → Type 0) (all : (k : ℕ) → k ≤ 11 → P k) where
     where
       go : (e : Option Entry) → Only P (maybe e (uncovered first g) (λ e. byRecord first t e g))
       go none = none-covers g
-      go (some e) = bound P (shapeOf (t .xdata) e) _ (up-shape (t .xdata) e) (λ s. either-way P (ltb (even (g .pc) - t .image - e .start) (s .span)) _ _ (up-within (t .stack) s (even (g .pc) - t .image - e .start) g) (none-covers g))
+      go (some e) = bound P (shapeOf (t .xdata) e) _ (only-shape P (all 4 (omega arith)) (all 5 (omega arith)) (t .xdata) (e .word)) (λ s. either-way P (ltb (even (g .pc) - t .image - e .start) (s .span)) _ _ (up-within (t .stack) s (even (g .pc) - t .image - e .start) g) (none-covers g))
 
 abbrev pub UpTo : {A : Type 0} → ℕ → Res A → Type 0
 UpTo n x = Only (λ k. k ≤ n) x
@@ -350,3 +353,34 @@ regionNamed-kind Crossed = refl
 
 pub region-numbers-differ : (r s : RegionRefusal) → regionNumber r ≡ regionNumber s → regionKind r ≡ regionKind s
 region-numbers-differ r s e = sym (regionNamed-kind r) ∙ ap regionNamed e ∙ regionNamed-kind s
+
+-- and with those of order 3
+abbrev pub fitKind : FitRefusal → FitRefusal
+fitKind (Fit.Record r) = Fit.Record (kind r)
+fitKind Fit.Short = Fit.Short
+fitKind (Fit.Differs o) = Fit.Differs 0
+
+abbrev fitNamed : ℕ → FitRefusal
+fitNamed n = if eqb n 17 then Fit.Differs 0 else (if eqb n 18 then Fit.Short else Fit.Record (named n))
+
+fitNamed-kind : (r : FitRefusal) → fitNamed (fitNumber r) ≡ fitKind r
+fitNamed-kind (Fit.Record r) =
+    let h = below-15 r in
+    rw (ne-eqb (number r) 17 (λ e. omega (arith, h, e)), ne-eqb (number r) 18 (λ e. omega (arith, h, e))) (ap Fit.Record (named-kind r))
+fitNamed-kind Fit.Short = refl
+fitNamed-kind (Fit.Differs o) = refl
+
+pub fit-numbers-differ : (r s : FitRefusal) → fitNumber r ≡ fitNumber s → fitKind r ≡ fitKind s
+fit-numbers-differ r s e = sym (fitNamed-kind r) ∙ ap fitNamed e ∙ fitNamed-kind s
+
+-- those of regions are other numbers than those of fitting, but for a record's own
+pub apart-numbers : (r : RegionRefusal) (s : FitRefusal) → regionNumber r ≡ fitNumber s → (q : Refusal) × (p : Refusal) × (r ≡ Record q) × (s ≡ Fit.Record p)
+apart-numbers (Record q) (Fit.Record p) e = (q, p, refl, refl)
+apart-numbers (Record q) Fit.Short e = absurd (omega (arith, below-15 q, e))
+apart-numbers (Record q) (Fit.Differs o) e = absurd (omega (arith, below-15 q, e))
+apart-numbers TableOutside (Fit.Record p) e = absurd (omega (arith, below-15 p, e))
+apart-numbers TableOutside Fit.Short e = absurd (omega (arith, e))
+apart-numbers TableOutside (Fit.Differs o) e = absurd (omega (arith, e))
+apart-numbers Crossed (Fit.Record p) e = absurd (omega (arith, below-15 p, e))
+apart-numbers Crossed Fit.Short e = absurd (omega (arith, e))
+apart-numbers Crossed (Fit.Differs o) e = absurd (omega (arith, e))

@@ -33,7 +33,7 @@ use Rattle.xdata.specs.declared.Head.{Head}
 use Rattle.pdata.specs.Pdata.{find}
 use Rattle.xdata.specs.Xdata.{X, fitXdata, scopeCount, codesOffset, handlerOffset, recordBytes, shortHead, longHead, headAt, xdataSize}
 use Rattle.xdata.specs.Scopes.{scopesAt}
-use Rattle.record.specs.Record.{fullOf, fullShape, packedShape, shapeOf}
+use Rattle.record.specs.Record.{fullOf, fullShape, packedShape, shapeAt, shapeOf}
 use Rattle.xdata.proofs.Heads.{head-small}
 use Rattle.words.proofs.Tests.{both}
 use Rattle.unwinding.specs.declared.Scope.{Scope}
@@ -212,11 +212,11 @@ module _ (x x′ : Lent) (m : More x x′) where
       stays-bind (scopesAt x (a + h .bytes) (scopeCount h)) (scopesAt x′ (a + h .bytes) (scopeCount h)) _ _ (λ e. s)
       (λ l q e. ap ok (same-full a h l (w .0) (w .1))))
 
-  stays-shape : (e : Entry) → Stays (shapeOf x e) (shapeOf x′ e)
-  stays-shape e = go (eqb (bits 0 2 (e .word)) 0)
+  pub stays-at : (w : ℕ) → Stays (shapeAt x w) (shapeAt x′ w)
+  stays-at w = go (eqb (bits 0 2 w) 0)
     where
-      go : (t : Bool) → Stays (if t then fullShape x (e .word) else packedShape (e .word)) (if t then fullShape x′ (e .word) else packedShape (e .word))
-      go true = stays-full (e .word)
+      go : (t : Bool) → Stays (if t then fullShape x w else packedShape w) (if t then fullShape x′ w else packedShape w)
+      go true = stays-full w
       go false = λ q. refl
 
 -- ---- one frame
@@ -229,7 +229,7 @@ module _ (t t′ : Inputs) (w : Wider t t′) (first : Bool) where
   unfolding byRecord
   stays-record e g =
       rw (w .image)
-      (stays-bind (shapeOf (t .xdata) e) (shapeOf (t′ .xdata) e) _ _ (stays-shape (t .xdata) (t′ .xdata) (w .xdata) e)
+      (stays-bind (shapeOf (t .xdata) e) (shapeOf (t′ .xdata) e) _ _ (stays-at (t .xdata) (t′ .xdata) (w .xdata) (e .word))
       (λ s p. stays-covered (ltb (even (g .pc) - t .image - e .start) (s .span)) s (even (g .pc) - t .image - e .start) g))
 
   stays-found : (e : Option Entry) (g : Regs) → Stays (maybe e (uncovered first g) (λ e. byRecord first t e g)) (maybe e (uncovered first g) (λ e. byRecord first t′ e g))

@@ -8,3 +8,4 @@ pub mod WalkLaws
 pub mod Demand2
 pub mod Shams
 pub mod Regions
+pub mod Fitting

@@ -41,14 +41,14 @@ module _ (x : Lent) (w : ℕ) (s : List ℕ) where
   fit-read q =
       ap (λ y. either y (λ r. Refused (Record r)) (viewFitted s (q .shape))) (sym (q .passes6-7)) ∙ fit-shape x w s (ok (q .shape)) (q .passes1) (q .passes4-5)
 
-  fit-long : (q : Reads x w) → q .shape .span ≤ length s → answered (compared (items s (q .shape .fragment) (q .view))) ≡ fitted x w s
+  pub fit-long : (q : Reads x w) → q .shape .span ≤ length s → answered (compared (items s (q .shape .fragment) (q .view))) ≡ fitted x w s
   fit-long q h = if-false (Refused Short) _ (le-ltb _ _ h) ∙ fit-read q
 
   fit-short : (q : Reads x w) → length s < q .shape .span → Refused Short ≡ fitted x w s
   fit-short q h = if-true _ _ (lt-ltb _ _ h) ∙ fit-read q
 
   -- the ways in which an answer comes
-  data Way : Fitted → Type 0 where
+  pub data Way : Fitted → Type 0 where
     unread : (r : Refusal) → Unread x w r → Way (Refused (Record r))
     short : IsShort x w s → Way (Refused Short)
     long : (q : Reads x w) → q .shape .span ≤ length s → Way (answered (compared (items s (q .shape .fragment) (q .view))))
@@ -56,7 +56,7 @@ module _ (x : Lent) (w : ℕ) (s : List ℕ) where
   refused-view : (sh : Shape) (r : Refusal) → shapeAt x w ≡ ok sh → view sizeOf codedAt sh ≡ refuse r → viewAt x w ≡ refuse r
   refused-view sh r e f = ap (λ y. y >>= view size codesAt) e ∙ sym (view-coded sh) ∙ ap (mapped (viewOf (λ (d : Coded). d .code))) f
 
-  way : Way (fitted x w s)
+  pub way : Way (fitted x w s)
   unfolding fitted
   way = by-xdata (fitXdata x) refl
     where
@@ -131,11 +131,11 @@ module _ (x : Lent) (w : ℕ) (s : List ℕ) where
       ∙ ap answered (first-differs (d .before) (d .first) (d .behind) (d .stand) (d .other))
       ∙ ap (λ n. Refused (Differs n)) (d .at)
 
-  to-unread : (r : Refusal) → Unread x w r → fitted x w s ≡ Refused (Record r)
+  pub to-unread : (r : Refusal) → Unread x w r → fitted x w s ≡ Refused (Record r)
   to-unread r (inl h) = sym (fit-unfit x w s (h .0)) ∙ ap (λ t. Refused (Record t)) (sym (h .1))
   to-unread r (inr h) = sym (fit-refused x w s r (h .0) (ap verdict (h .1)))
 
-  pub exactly : Exactly x w s
+  pub exactly : Exactly (fitted x w s) x w s
   exactly = record {
     in-line = λ is c. subst (λ l. InLine 0 l (c .reads .shape .span)) (c .all) (items-line s (c .reads .shape) (c .reads .view) (c .reads .passes6-7));
     passes = (from-passes (fitted x w s) way, to-passes);

@@ -3,3 +3,5 @@ pub mod Whole
 pub mod Standing
 pub mod Lines
 pub mod Exact
+pub mod Behind
+pub mod Examples

@@ -45,7 +45,7 @@ line-up a b c [] h k = omega (arith, h, k)
 line-up a b c (i ∷ xs) h k = (h .0, h .1, line-up _ b c xs (h .2) k)
 
 -- a line goes up; one that goes nowhere has nothing in it
-line-le : (a b : ℕ) (xs : List Item) → InLine a xs b → a ≤ b
+pub line-le : (a b : ℕ) (xs : List Item) → InLine a xs b → a ≤ b
 line-le a b [] h = h
 line-le a b (i ∷ xs) h = omega (arith, h .0, h .1, line-le _ b xs (h .2))
 

@@ -21,8 +21,9 @@ use Rattle.expected.specs.Expected.{home}
 use Rattle.expected.specs.Items.{Coded, sizeOf, codedAt, Item, expects}
 use Rattle.expected.specs.declared.Acts.{Acts}
 use Rattle.expected.specs.declared.Acts.the-variants.{Any, This, OrHome}
-use Rattle.fitting.specs.Fitting.{items, fitted}
+use Rattle.fitting.specs.Fitting.{items}
 use Rattle.fitting.specs.declared.FitRefusal.the-variants.{Record, Short, Differs}
+use Rattle.fitting.specs.declared.Fitted.{Fitted}
 use Rattle.fitting.specs.declared.Fitted.the-variants.{Fits, Refused}
 
 -- an instruction does what is expected
@@ -85,9 +86,10 @@ Unread x w r = ((fitXdata x ≡ false) × (r ≡ UnfitInput)) ⊎ ((fitXdata x �
 abbrev pub Iff : Type 0 → Type 0 → Type 0
 Iff A B = (A → B) × (B → A)
 
-pub record Exactly (x : Lent) (w : ℕ) (s : List ℕ) : Type 0 where
+-- an answer, whoever gives it
+pub record Exactly (answer : Fitted) (x : Lent) (w : ℕ) (s : List ℕ) : Type 0 where
   pub in-line : (is : List Item) (c : Compares x w s is) → InLine 0 is (c .reads .shape .span)
-  pub passes : Iff (fitted x w s ≡ Fits) (Passes x w s)
-  pub differs : (o : ℕ) → Iff (fitted x w s ≡ Refused (Differs o)) (DiffersAt x w s o)
-  pub short : Iff (fitted x w s ≡ Refused Short) (IsShort x w s)
-  pub unread : (r : Refusal) → Iff (fitted x w s ≡ Refused (Record r)) (Unread x w r)
+  pub passes : Iff (answer ≡ Fits) (Passes x w s)
+  pub differs : (o : ℕ) → Iff (answer ≡ Refused (Differs o)) (DiffersAt x w s o)
+  pub short : Iff (answer ≡ Refused Short) (IsShort x w s)
+  pub unread : (r : Refusal) → Iff (answer ≡ Refused (Record r)) (Unread x w r)

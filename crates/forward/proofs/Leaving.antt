@@ -53,9 +53,9 @@ left-stack {rX} (next {s = s} {t = t} c f l) = left-stack l ∙ stack-one rX (c 
 
 module _ (k : Lent) (e : St) (al : e .sp % 4 ≡ 0) (top : e .sp ≤ end k) (rX : ℕ → Type 0) where
   -- what is left to undo, in a state whose stack is k
-  record Rest (cs : List Code) (t : State) : Type 0 where
-    stack : t .stack ≡ k
-    inv : Inv (k .base) e (flat cs) (seen (t .regs)) (wordAt k)
+  pub record Rest (cs : List Code) (t : State) : Type 0 where
+    pub stack : t .stack ≡ k
+    pub inv : Inv (k .base) e (flat cs) (seen (t .regs)) (wordAt k)
 
   undoes : (u : Undo) (cs : List Code) {s t : State} → Sound u → Undoes u s t → s .stack ≡ k → Inv (k .base) e (ops u ++ flat cs) (seen (s .regs)) (wordAt k) → Rest cs t
   undoes u cs {s} {t} o f q v =
@@ -70,7 +70,7 @@ module _ (k : Lent) (e : St) (al : e .sp % 4 ≡ 0) (top : e .sp ≤ end k) (rX 
         (λ x w. f .rest x (λ free. elim (need-cases cs x w) [ inl a ↦ free .1 (inc x a) | inr p ↦ lasting-range x (p .0) (free .0) ])) v;
   }
 
-  leaves :
+  pub leaves :
       (u : Undo) (cs : List Code) (s t : State) → Sound u → ((x : ℕ) → RX cs x → rX x) → Leaves rX u s t → s .stack ≡ k
       → Inv (k .base) e (ops u ++ flat cs) (seen (s .regs)) (wordAt k)
       → Rest cs t

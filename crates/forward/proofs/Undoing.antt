@@ -161,7 +161,7 @@ module _ (k : Lent) (e : St) (al : e .sp % 4 ≡ 0) (top : e .sp ≤ end k) wher
       record { next = setSp g (g .sp + 4 * n .0); whole = record { r = w .r; d = w .d }; runs = λ k′ o. refl; inv = back (k .base) e al v }
   effects (Pop l) cs g s w v = pops l 15 cs g (list-no-sp l s) (omega arith) w v
   effects (SpFrom x) cs g s w v =
-      let same : value g x ≡ reg g x = rw (lt-ltb x 16 s) refl in
+      let same : value g x ≡ reg g x = rw (lt-ltb x 16 (omega arith)) refl in
       record {
         next = setSp g (reg g x);
         whole = record { r = w .r; d = w .d };

@@ -26,7 +26,7 @@ use Rattle.forward.proofs.Steps.{seen, st}
 use Rattle.forward.proofs.Undoing.{ran}
 use Rattle.forward.proofs.Ready.{Ready}
 
-value-d : (g : Regs) (x : ℕ) → value g (16 + x) ≡ getD (g .d) x 0
+pub value-d : (g : Regs) (x : ℕ) → value g (16 + x) ≡ getD (g .d) x 0
 value-d g x = rw (le-ltb (16 + x) 16 (omega arith)) (ap (λ i. getD (g .d) i 0) (let z : 16 + x - 16 ≡ x = omega arith in z))
 
 value-r : (g : Regs) (x : ℕ) → x ≤ 11 → value g x ≡ reg g x

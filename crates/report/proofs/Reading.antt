@@ -13,8 +13,9 @@ use Rattle.words.specs.declared.Refusal.the-variants.{UnfitReport}
 use Rattle.words.specs.declared.Refusal.{Refusal}
 use Rattle.words.specs.declared.Verdict.the-variants.{Given, Refused}
 use Rattle.words.specs.Answer.{Res, ok, refuse, _>>_, need, either}
+use Rattle.lent.specs.Parts.{same}
 use Rattle.report.specs.declared.Parts.{Parts}
-use Rattle.report.specs.Report.{Report, report, same, mark, headBytes, pdataBytes, xdataBytes, stackSize, xdataAt, stackAt, endAt, inputsOf, regsOf}
+use Rattle.report.specs.Report.{Report, report, mark, headBytes, pdataBytes, xdataBytes, stackSize, xdataAt, stackAt, endAt, inputsOf, regsOf}
 use Rattle.report.specs.as_coded.Parts.{parts, partsOf, noParts, inputsIn, reportFrom, reportIn, Lie}
 
 -- whatever was asked before, one need that fails is 14

@@ -1,10 +1,11 @@
 -- The report file: a mark, numbers and registers at the offsets of RULES 8.1, then three parts, which end with the file (RULES 8.2).
 use Prim.Native.Nat.{ℕ, zero, suc, _+_, _*_}
 use mathlib.Core.List.{List, [], _∷_}
-use mathlib.Core.Bool.{Bool, true, false, _&&_}
-use lib.ListN.{length, take, drop}
+use mathlib.Core.Bool.{_&&_}
+use lib.ListN.{length, take}
 use lib.Dec.{leb, eqb}
 use Rattle.lent.specs.Little.{word32, word64}
+use Rattle.lent.specs.Parts.{same, part}
 use Rattle.words.specs.declared.Refusal.the-variants.{UnfitReport}
 use Rattle.words.specs.Answer.{Res, ok, _>>=_, _>>_, need}
 use Rattle.machine.specs.declared.Regs.{Regs}
@@ -14,12 +15,6 @@ pub record Report : Type 0 where
   pub inputs : Inputs
   pub regs : Regs
 
-abbrev pub same : List ℕ → List ℕ → Bool
-same [] [] = true
-same [] (b ∷ t) = false
-same (a ∷ s) [] = false
-same (a ∷ s) (b ∷ t) = eqb a b && same s t
-
 -- n words, or n double words, from a byte offset
 unfoldable pub words32 : List ℕ → (at n : ℕ) → List ℕ
 words32 s a zero = []
@@ -28,9 +23,6 @@ words32 s a (suc n) = word32 s a ∷ words32 s (a + 4) n
 unfoldable pub words64 : List ℕ → (at n : ℕ) → List ℕ
 words64 s a zero = []
 words64 s a (suc n) = word64 s a ∷ words64 s (a + 8) n
-
-abbrev pub part : List ℕ → (at n : ℕ) → List ℕ
-part s a n = take n (drop a s)
 
 -- the letters WLK, the version, zeros
 abbrev pub mark : List ℕ

@@ -35,7 +35,7 @@ impl Difference<'_> {
     /// Both answers beside each other, with a mark at the lines that differ.
     pub fn show(&self) -> String {
         let mut text = row(' ', "expected", "answered");
-        let expected = self.expected.unwrap_or("(no such report)").lines().map(Some);
+        let expected = self.expected.unwrap_or("(no such file)").lines().map(Some);
         let answered = self.answered.unwrap_or("(no answer)").lines().map(Some);
         let longest = expected.clone().count().max(answered.clone().count());
         let expected = expected.chain(iter::repeat(None));

@@ -17,7 +17,8 @@ pub fn any(rng: &mut Rng) -> Function {
 pub fn with_body(rng: &mut Rng, body: List, room: u32) -> Function {
     let mut pool = Pool::new(&body);
     let epilogues = random_epilogues(rng, &body, &mut pool);
-    let plan = Plan { fragment: rng.percent(20), conditions: true, room, body, pool, epilogues };
+    let fragment = rng.percent(20);
+    let plan = Plan { fragment, conditions: true, room, gap, body, pool, epilogues };
     lay_out(rng, plan)
 }
 
@@ -26,7 +27,7 @@ pub fn in_chain(rng: &mut Rng) -> Function {
     let body = orderly_list(rng);
     let pool = Pool::new(&body);
     let epilogues = vec![(body.clone(), 0); rng.below(3)];
-    let plan = Plan { fragment: false, conditions: false, room: 8, body, pool, epilogues };
+    let plan = Plan { fragment: false, conditions: false, room: 8, gap, body, pool, epilogues };
     lay_out(rng, plan)
 }
 
@@ -78,16 +79,16 @@ fn link_saver(rng: &mut Rng) -> Step {
 }
 
 /// The code bytes of a record while lists are added to them.
-struct Pool {
-    bytes: Vec<u8>,
+pub struct Pool {
+    pub bytes: Vec<u8>,
 }
 
 impl Pool {
-    fn new(body: &List) -> Pool {
+    pub fn new(body: &List) -> Pool {
         Pool { bytes: body.code_bytes() }
     }
 
-    fn add(&mut self, list: &List) -> usize {
+    pub fn add(&mut self, list: &List) -> usize {
         let index = self.bytes.len();
         self.bytes.extend(list.code_bytes());
         index
@@ -136,16 +137,18 @@ fn random_epilogue(rng: &mut Rng, body: &List, pool: &mut Pool) -> (List, usize)
 }
 
 /// What a full record is made of, before its parts have offsets.
-struct Plan {
-    body: List,
-    pool: Pool,
+pub struct Plan {
+    pub body: List,
+    pub pool: Pool,
     /// Each with its code index.
-    epilogues: Vec<(List, usize)>,
-    fragment: bool,
+    pub epilogues: Vec<(List, usize)>,
+    pub fragment: bool,
     /// Some epilogues may be conditional.
-    conditions: bool,
+    pub conditions: bool,
     /// Bytes of body at least.
-    room: u32,
+    pub room: u32,
+    /// Bytes of body besides.
+    pub gap: fn(&mut Rng) -> u32,
 }
 
 /// Bytes of body: a few mostly, sometimes very many.
@@ -157,10 +160,10 @@ fn gap(rng: &mut Rng) -> u32 {
     }
 }
 
-fn lay_out(rng: &mut Rng, plan: Plan) -> Function {
+pub fn lay_out(rng: &mut Rng, plan: Plan) -> Function {
     let single = plan.epilogues.len() == 1 && rng.flag();
     let prologue = if plan.fragment { 0 } else { plan.body.prologue_size() };
-    let mut at = prologue + plan.room + gap(rng);
+    let mut at = prologue + plan.room + (plan.gap)(rng);
     let mut scopes = Vec::new();
     let mut epilogues = Vec::new();
     for (list, index) in plan.epilogues {
@@ -175,7 +178,7 @@ fn lay_out(rng: &mut Rng, plan: Plan) -> Function {
         epilogues.push(Epilogue { start: at, list });
         at += if single { size } else { size.max(2) + 2 * rng.within(0..=6) };
     }
-    let length = at + if single || rng.percent(30) { 0 } else { gap(rng) };
+    let length = at + if single || rng.percent(30) { 0 } else { (plan.gap)(rng) };
     let record = FullRecord {
         length,
         version: 0,

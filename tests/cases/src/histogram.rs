@@ -64,7 +64,7 @@ impl Histogram {
             Group::new(PLACE, first_places),
             Group::new(LATER_PLACE, places),
             Group::new(HANDLER, places),
-            Group::new(ROW, ROWS.map(|(_, name)| name)),
+            Group::new(ROW, rows()),
             Group::new(
                 POPPED,
                 POPS.into_iter().flat_map(|(row, most)| popped(row, most).chain(popped(row, 0))),
@@ -157,6 +157,15 @@ impl Histogram {
         }
     }
 
+    /// Classes of the groups with these titles that were met.
+    pub fn met<'a>(&'a self, titles: &'a [&str]) -> impl Iterator<Item = String> + use<'a> {
+        let groups = self.groups.iter().filter(|group| titles.contains(&group.title));
+        groups.flat_map(|group| {
+            let met = group.classes.iter().filter(|(_, count)| *count > 0);
+            met.map(|(class, _)| format!("{} {class}", group.title))
+        })
+    }
+
     /// Classes met fewer than `least` times.
     pub fn rare(&self, least: u64) -> Vec<String> {
         let mut rare = Vec::new();
@@ -212,6 +221,10 @@ const ROWS: [(u8, &str); 17] = [
     (0xff, "FC"),
 ];
 
+pub fn rows() -> impl Iterator<Item = &'static str> {
+    ROWS.into_iter().map(|(_, name)| name)
+}
+
 pub fn row(code: u8) -> &'static str {
     let found = ROWS.iter().find(|(last, _)| code <= *last);
     found.map_or("", |(_, name)| name)
@@ -231,7 +244,7 @@ fn popped(row: &str, list: u32) -> impl Iterator<Item = String> + use<'_> {
 }
 
 /// Kinds of Stack Adjust by their last value.
-const ADJUSTS: [(u32, &str); 9] = [
+pub const ADJUSTS: [(u32, &str); 9] = [
     (0, "0"),
     (0x7e, "1-7E"),
     (0x7f, "7F"),
@@ -243,12 +256,12 @@ const ADJUSTS: [(u32, &str); 9] = [
     (0x3ff, "PF and EF"),
 ];
 
-fn adjust(value: u32) -> &'static str {
+pub fn adjust(value: u32) -> &'static str {
     let found = ADJUSTS.iter().find(|(last, _)| value <= *last);
     found.map_or("", |(_, name)| name)
 }
 
-fn saved_name(r: bool, reg: u32) -> String {
+pub fn saved_name(r: bool, reg: u32) -> String {
     match (r, reg) {
         (true, 7) => "none".to_string(),
         (true, _) => format!("d8-d{}", 8 + reg),
@@ -256,13 +269,13 @@ fn saved_name(r: bool, reg: u32) -> String {
     }
 }
 
-fn fields_name(ret: u32, h: bool, l: bool, c: bool, r: bool) -> String {
+pub fn fields_name(ret: u32, h: bool, l: bool, c: bool, r: bool) -> String {
     let digit = |flag| u32::from(flag);
     format!("{ret} {} {} {} {}", digit(h), digit(l), digit(c), digit(r))
 }
 
 /// The combinations of Ret, H, L, C and R that no reader refuses.
-fn sound_fields() -> Vec<String> {
+pub fn sound_fields() -> Vec<String> {
     let bit = |all: u32, number: u32| all >> number & 1 == 1;
     (0..64)
         .map(|all| (all >> 4, bit(all, 3), bit(all, 2), bit(all, 1), bit(all, 0)))

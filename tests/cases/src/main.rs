@@ -5,6 +5,7 @@ mod answers;
 mod ask_find;
 mod ask_packed;
 mod ask_size;
+mod assembly;
 mod case;
 mod chain;
 mod damage;
@@ -12,12 +13,26 @@ mod draft;
 mod edges;
 mod examples;
 mod families;
+mod fit_aims;
+mod fit_cases;
+mod fit_classes;
+mod fit_code;
+mod fit_examples;
+mod fit_file;
+mod fit_functions;
+mod fit_instructions;
+mod fit_samples;
 mod framing;
 mod full;
 mod functions;
 mod guarded;
 mod histogram;
 mod known;
+mod miss_amounts;
+mod miss_ends;
+mod miss_lists;
+mod miss_moves;
+mod misses;
 mod module;
 mod mutants;
 mod options;
@@ -30,6 +45,7 @@ mod requests;
 mod rng;
 mod samples;
 mod scene;
+mod stands;
 mod steps;
 mod stored;
 mod streams;
@@ -60,13 +76,17 @@ usage: cases generate --seed S --cases N        reports, each preceded by its le
        cases request --seed S --cases N --number K
                                                 one of those, as text
        cases requested --seed S --cases N       what they meet, and whether known answers are given
+       cases fits --seed S --cases N            FIT files, each preceded by its length
+       cases fit --seed S --number K            one FIT file of those
+       cases fitted --seed S --cases N          what they meet, and whether known answers are given
        cases examples DIR                       reports with their answers, also odd inputs
+       cases fit_examples DIR                   FIT files with their answers, also odd inputs
        cases truth JSONL WALKS CALLERS          real reports: the answers against the truth
        cases stored REAL CRATES --seed S        the inputs stored with the programs
-       cases pick FILE --number K               one report of a file of reports
-       cases frame REPORT                       a report preceded by its length
+       cases pick FILE --number K               one report or FIT file of a file of them
+       cases frame FILE                         a report or FIT file preceded by its length
        cases compare WHAT EXPECTED ANSWERED [AGAIN]
-                                                the answers that differ; AGAIN and the report's number
+                                                the answers that differ; AGAIN and the file's number
                                                 is the command to see one again
        cases count EXPECTED ANSWERED            how many answers differ
        cases mutants FILE                       the names of the planted mistakes
@@ -97,9 +117,13 @@ fn run() -> Result<bool, String> {
         ["one"] => print_bytes(&families::case(options.seed, options.number).report),
         ["histogram"] => count_classes(&options),
         ["requests"] => write_requests(&options),
+        ["fits"] => write_fits(&options),
+        ["fit"] => print_bytes(&fit_cases::case(options.seed, options.number).file),
+        ["fitted"] => count_fits(&options),
         ["request"] => show_request(&options),
         ["requested"] => count_requests(&options),
         ["examples", folder] => write_examples(Path::new(folder)),
+        ["fit_examples", folder] => write_fit_examples(Path::new(folder)),
         ["truth", truth, walks, callers] => check_truth(truth, walks, callers),
         ["stored", real, crates] => write_stored(&options, real, Path::new(crates)),
         ["pick", file] => pick(file, options.number),
@@ -204,6 +228,29 @@ fn count_requests(options: &Options) -> Result<bool, String> {
     Ok(show_classes(options, &histogram, known, &wrong))
 }
 
+fn write_fits(options: &Options) -> Result<bool, String> {
+    let mut framed = Vec::new();
+    for number in 0..options.cases {
+        framing::frame(&mut framed, &fit_cases::case(options.seed, number).file);
+    }
+    print_bytes(&framed)
+}
+
+fn count_fits(options: &Options) -> Result<bool, String> {
+    let mut histogram = fit_classes::histogram();
+    let mut confirmed = 0;
+    let mut wrong = Vec::new();
+    for number in 0..options.cases {
+        let case = fit_cases::case(options.seed, number);
+        match fit_classes::take(&mut histogram, &case) {
+            Some(true) => confirmed += 1,
+            Some(false) => wrong.push(format!("FIT file {number}: known is {:?}", case.known)),
+            None => {}
+        }
+    }
+    Ok(show_classes(options, &histogram, confirmed, &wrong))
+}
+
 fn write_vectors(folder: &Path, name: &str, vectors: &Vectors) -> Result<(), String> {
     write_file(&folder.join(format!("{name}.bin")), &vectors.reports)?;
     write_file(&folder.join(format!("{name}.walk")), vectors.walks.as_bytes())?;
@@ -220,6 +267,21 @@ fn write_examples(folder: &Path) -> Result<bool, String> {
     Ok(true)
 }
 
+fn write_fit_examples(folder: &Path) -> Result<bool, String> {
+    let write = |name: &str, files: &[u8], answers: &str| {
+        write_file(&folder.join(format!("{name}.bin")), files)?;
+        write_file(&folder.join(format!("{name}.fits")), answers.as_bytes())
+    };
+    let (files, answers) = fit_examples::vectors();
+    write("examples", &files, &answers)?;
+    write_file(&folder.join("longest.fit"), &fit_examples::longest(0).bytes())?;
+    write_file(&folder.join("too-long.fit"), &fit_examples::longest(1).bytes())?;
+    for (number, (files, answers)) in streams::fit_streams().iter().enumerate() {
+        write(&format!("stream-{number:02}"), files, answers)?;
+    }
+    Ok(true)
+}
+
 fn write_stored(options: &Options, real: &str, crates: &Path) -> Result<bool, String> {
     let stream = stored::stream(options.seed, options.cases, &bytes_of(real)?)?;
     write_file(&crates.join("walk/stdin"), &examples::listing_draft().bytes())?;
@@ -228,6 +290,9 @@ fn write_stored(options: &Options, real: &str, crates: &Path) -> Result<bool, St
     for program in ["walk_many", "caller_many", "outline_many"] {
         write_file(&crates.join(program).join("stdin"), &stream)?;
     }
+    write_file(&crates.join("fits/stdin"), &fit_examples::fitting_file().bytes())?;
+    let fits = stored::fit_stream(options.seed, options.cases);
+    write_file(&crates.join("fits_many/stdin"), &fits)?;
     Ok(true)
 }
 
@@ -253,7 +318,7 @@ fn compare(
     let (expected, answered) = (text_of(expected)?, text_of(answered)?);
     let differences = answers::differences(&expected, &answered);
     for difference in differences.iter().take(SHOWN) {
-        println!("{what}, report {} differs:", difference.number);
+        println!("{what}, number {} differs:", difference.number);
         print!("{}", difference.show());
         if let Some(again) = again {
             println!("    again: {again} {}", difference.number);
@@ -303,6 +368,12 @@ fn write_samples(folder: &Path) -> Result<bool, String> {
         if let Some(known) = &sample.outline {
             write_known(&file("outline"), &text::outline(&sample.report), known)?;
         }
+    }
+    for sample in fit_samples::samples() {
+        let file = |kind: &str| folder.join(format!("{}.{kind}", sample.name));
+        let bytes = sample.file.bytes();
+        write_file(&file("fit"), &bytes)?;
+        write_known(&file("fits"), &text::fits(&bytes), sample.answer)?;
     }
     Ok(true)
 }

@@ -29,6 +29,18 @@ pub fn in_chain(rng: &mut Rng) -> Function {
     }
 }
 
+/// Any sound packed record with this many bytes of body.
+pub fn with_body(rng: &mut Rng, room: u32) -> Function {
+    loop {
+        let fields = random_fields(rng);
+        if fields.sound() {
+            let prologue = if fields.flag == 1 { prologue(&fields).prologue_size() } else { 0 };
+            let epilogue = epilogue(&fields).map_or(0, |list| list.epilogue_size());
+            return lay_out(PackedFields { length: prologue + room + epilogue, ..fields });
+        }
+    }
+}
+
 fn random_length(rng: &mut Rng) -> u32 {
     match rng.within(0..=99) {
         0..=9 => 2 * rng.within(1..=20),

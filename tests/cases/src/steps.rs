@@ -132,7 +132,7 @@ pub fn long_room(first: u32, words: u32, size: u32) -> Step {
     step(Effect::Room(words), &[first, words >> 8, words & 0xff], size)
 }
 
-fn longer_room(first: u32, words: u32, size: u32) -> Step {
+pub fn longer_room(first: u32, words: u32, size: u32) -> Step {
     let code = [first, words >> 16, words >> 8 & 0xff, words & 0xff];
     step(Effect::Room(words), &code, size)
 }
@@ -153,11 +153,11 @@ pub fn high_push(above_r8: u32, lr: bool) -> Step {
     step(Effect::Push(list), &[0xd8 | u32::from(lr) << 2 | above_r8], 4)
 }
 
-fn narrow_push(list: u32, lr: bool) -> Step {
+pub fn narrow_push(list: u32, lr: bool) -> Step {
     step(Effect::Push(list | link(lr)), &[0xec | u32::from(lr), list], 2)
 }
 
-fn wide_push(list: u32, lr: bool) -> Step {
+pub fn wide_push(list: u32, lr: bool) -> Step {
     let code = [0x80 | u32::from(lr) << 5 | list >> 8, list & 0xff];
     step(Effect::Push(list | link(lr)), &code, 4)
 }
@@ -169,6 +169,11 @@ fn vector_push_from_d8(above_d8: u32) -> Step {
 fn vector_push(rng: &mut Rng, first_byte: u32, from: u32) -> Step {
     let start = rng.within(0..=15);
     let end = rng.within(start..=15);
+    vector_range(first_byte, from, start, end)
+}
+
+/// vpush of a range whose first and last register are told from `from` on.
+pub fn vector_range(first_byte: u32, from: u32, start: u32, end: u32) -> Step {
     step(Effect::VectorPush(from + start, from + end), &[first_byte, start << 4 | end], 4)
 }
 

@@ -4,10 +4,12 @@ use std::collections::BTreeSet;
 
 use peer::text::{caller, listing, outline};
 
-use crate::draft::{Draft, LONGEST, PC, SP};
+use crate::draft::{put_words, Draft, LONGEST, PC, SP};
 use crate::examples::listing_draft;
 use crate::families::case;
+use crate::fit_examples::fitting_file;
 use crate::framing::{frame, framed};
+use crate::{fit_cases, fit_classes, fit_file};
 
 /// What `classes` can say: refusals 1-11 and 14 and the four places of the one frame; refusals 1-14, "end" and "full" of the walk;
 /// refusals 15 and 16 and the two marks, outermost and further in, of the outline.
@@ -56,6 +58,25 @@ fn every_class(seed: u64, cases: u64) -> Result<Vec<Vec<u8>>, String> {
         }
     }
     Err(format!("only {} of {CLASSES} ways to answer are met", met.len()))
+}
+
+/// Document 01's packed record with its code, the first generated FIT files that are answered in a new way or for a new reason, and the head
+/// of one that is too long.
+pub fn fit_stream(seed: u64, cases: u64) -> Vec<u8> {
+    let mut out = Vec::new();
+    frame(&mut out, &fitting_file().bytes());
+    let mut met = BTreeSet::new();
+    for number in 0..cases {
+        let case = fit_cases::case(seed, number);
+        let before = met.len();
+        met.extend(fit_classes::ways(&case));
+        if met.len() > before {
+            frame(&mut out, &case.file);
+        }
+    }
+    put_words(&mut out, &[fit_file::LONGEST as u32 + 1]);
+    out.extend([0; 3]);
+    out
 }
 
 /// How a report is answered: the caller's place or refusal, the walk's stop or refusal, and the lines that only an outline has.

@@ -1,19 +1,19 @@
-//! Reports one after the other, each preceded by its length in 32 bits, little-endian.
+//! Files one after the other, each preceded by its length in 32 bits, little-endian.
 
 use std::io::{self, Read, Write};
 
 use crate::refusal::Refusal;
-use crate::report::LONGEST;
 use crate::text::refused;
 
-/// Answers every report of `input`, each answer followed by an empty line.
+/// Answers every file of `input`, of at most `longest` bytes each, each answer followed by an empty line.
 pub fn answer_all(
     mut input: impl Read,
     mut output: impl Write,
+    longest: usize,
     answer: fn(&[u8]) -> String,
 ) -> io::Result<()> {
     loop {
-        let text = match next(&mut input)? {
+        let text = match next(&mut input, longest)? {
             Item::Report(report) => answer(&report),
             Item::TooLong | Item::Cut => refused(Refusal::Unfit),
             Item::Nothing => return output.flush(),
@@ -31,7 +31,7 @@ enum Item {
     Nothing,
 }
 
-fn next(input: &mut impl Read) -> io::Result<Item> {
+fn next(input: &mut impl Read, longest: usize) -> io::Result<Item> {
     let head = up_to(input, 4)?;
     if head.is_empty() {
         return Ok(Item::Nothing);
@@ -40,7 +40,7 @@ fn next(input: &mut impl Read) -> io::Result<Item> {
         return Ok(Item::Cut);
     };
     let length = u64::from(u32::from_le_bytes(head));
-    if length > LONGEST as u64 {
+    if length > longest as u64 {
         io::copy(&mut input.take(length), &mut io::sink())?;
         return Ok(Item::TooLong);
     }

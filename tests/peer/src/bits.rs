@@ -9,6 +9,12 @@ pub fn bit(word: u32, number: u32) -> bool {
     word >> number & 1 == 1
 }
 
+/// The halfword whose two bytes start at `at`, if both are there.
+pub fn halfword_at(bytes: &[u8], at: usize) -> Option<u32> {
+    let two = bytes.get(at..at.checked_add(2)?)?;
+    Some(u32::from(u16::from_le_bytes(two.try_into().ok()?)))
+}
+
 /// The word whose four bytes start at `at`, if all of them are there.
 pub fn word_at(bytes: &[u8], at: usize) -> Option<u32> {
     let four = bytes.get(at..at.checked_add(4)?)?;

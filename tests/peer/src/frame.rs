@@ -1,10 +1,10 @@
 //! One frame: from the registers in a function to those of its caller.
 
-use crate::full::{Full, Xdata};
-use crate::function::{Function, Place};
+use crate::full::Xdata;
+use crate::function::Place;
 use crate::machine::{Instruction, Registers, Stack, LR, PC, SP};
-use crate::packed::Packed;
 use crate::pdata;
+use crate::record::Record;
 use crate::refusal::Refusal;
 
 /// What a frame reads besides the registers.
@@ -90,40 +90,4 @@ fn check_parts(around: &Surroundings) -> Result<(), Refusal> {
 fn offset_in_image(around: &Surroundings, given: &Registers) -> Result<u32, Refusal> {
     let pc = given.r[PC] & !1;
     pc.checked_sub(around.image_base).ok_or(Refusal::BelowImage)
-}
-
-enum Record<'a> {
-    Packed(Packed),
-    Full(Full<'a>),
-}
-
-impl<'a> Record<'a> {
-    fn read(word: u32, xdata: &Xdata<'a>) -> Result<Record<'a>, Refusal> {
-        if word & 3 == 0 {
-            Ok(Record::Full(Full::read(xdata, word)?))
-        } else {
-            Ok(Record::Packed(Packed::read(word)?))
-        }
-    }
-
-    fn length(&self) -> u64 {
-        match self {
-            Record::Packed(packed) => packed.length,
-            Record::Full(full) => full.length(),
-        }
-    }
-
-    fn table(&self) -> Option<&'a [u8]> {
-        match self {
-            Record::Packed(_) => None,
-            Record::Full(full) => full.table(),
-        }
-    }
-
-    fn function(&self) -> Result<Function, Refusal> {
-        match self {
-            Record::Packed(packed) => packed.function(),
-            Record::Full(full) => full.function(),
-        }
-    }
 }

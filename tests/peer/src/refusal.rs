@@ -29,12 +29,16 @@ pub enum Refusal {
     Uncovered = 12,
     /// A later frame of a walk leaves SP the same.
     Standstill = 13,
-    /// The report file is unfit.
+    /// The file is unfit.
     Unfit = 14,
     /// A region table has more than 64 regions or is not wholly lent.
     Table = 15,
     /// A region does not begin below its end, or two regions cross.
     Nesting = 16,
+    /// An instruction is not the one that its code stands for.
+    Differs = 17,
+    /// The code ends before the function does.
+    ShortCode = 18,
 }
 
 impl Refusal {

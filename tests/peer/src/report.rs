@@ -1,6 +1,6 @@
 //! The report file: mark, numbers, registers, then .pdata, .xdata and the stack.
 
-use crate::bits::word_at;
+use crate::cursor::Cursor;
 use crate::frame::Surroundings;
 use crate::full::Xdata;
 use crate::machine::{Registers, Stack};
@@ -32,7 +32,7 @@ impl<'a> Report<'a> {
         let xdata_bytes = u64::from(cursor.word()?);
         let stack_base = cursor.word()?;
         let stack_bytes = u64::from(cursor.word()?);
-        let registers = cursor.registers()?;
+        let registers = read_registers(&mut cursor)?;
         let around = Surroundings {
             image_base,
             pdata: cursor.take(8 * pdata_records)?,
@@ -46,32 +46,15 @@ impl<'a> Report<'a> {
     }
 }
 
-struct Cursor<'a> {
-    rest: &'a [u8],
-}
-
-impl<'a> Cursor<'a> {
-    fn take(&mut self, count: u64) -> Result<&'a [u8], Refusal> {
-        let count = usize::try_from(count).map_err(|_| Refusal::Unfit)?;
-        let (taken, rest) = self.rest.split_at_checked(count).ok_or(Refusal::Unfit)?;
-        self.rest = rest;
-        Ok(taken)
+fn read_registers(cursor: &mut Cursor) -> Result<Registers, Refusal> {
+    let mut registers = Registers { r: [0; 16], d: [0; 32] };
+    for register in &mut registers.r {
+        *register = cursor.word()?;
     }
-
-    fn word(&mut self) -> Result<u32, Refusal> {
-        word_at(self.take(4)?, 0).ok_or(Refusal::Unfit)
+    for register in &mut registers.d {
+        let low = u64::from(cursor.word()?);
+        let high = u64::from(cursor.word()?);
+        *register = high << 32 | low;
     }
-
-    fn registers(&mut self) -> Result<Registers, Refusal> {
-        let mut registers = Registers { r: [0; 16], d: [0; 32] };
-        for register in &mut registers.r {
-            *register = self.word()?;
-        }
-        for register in &mut registers.d {
-            let low = u64::from(self.word()?);
-            let high = u64::from(self.word()?);
-            *register = high << 32 | low;
-        }
-        Ok(registers)
-    }
+    Ok(registers)
 }

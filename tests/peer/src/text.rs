@@ -2,6 +2,7 @@
 
 use std::fmt::Write;
 
+use crate::fits::{first_difference, File};
 use crate::frame::unwind;
 use crate::function::Place;
 use crate::machine::{Registers, LR, PC, SP};
@@ -90,6 +91,15 @@ pub fn caller(report: &[u8]) -> String {
             show_registers(&mut text, &report.registers);
             text
         }
+    }
+}
+
+/// Whether the record of a FIT file fits its code.
+pub fn fits(file: &[u8]) -> String {
+    match File::read(file).and_then(|file| first_difference(&file)) {
+        Ok(None) => "fits\n".to_string(),
+        Ok(Some(offset)) => format!("refused {} at {offset:08x}\n", Refusal::Differs.number()),
+        Err(refusal) => refused(refusal),
     }
 }
 

@@ -1,7 +1,7 @@
 -- The compare tells whether the bytes are equal, which is what `same` computes.
 -- Assumes nothing.
 use borrow.Author.Needs.{needs}
-use Rattle.report.proofs.Files.{same-is}
+use Rattle.lent.proofs.Same.{same-is}
 use Rattle.report.proofs.marked.Statement.{statement}
 use Rattle.report.proofs.marked.Tie as tie
 

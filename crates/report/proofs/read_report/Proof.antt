@@ -6,7 +6,8 @@ use lib.ListN.{length, take}
 use native.Mathlib.Omega.{arith}
 use borrow.Author.Tests.{not-true, not-false}
 use borrow.Author.Needs.{needs}
-use Rattle.report.specs.Report.{same, mark, endAt}
+use Rattle.lent.specs.Parts.{same}
+use Rattle.report.specs.Report.{mark, endAt}
 use Rattle.report.proofs.Reading.{too-short, too-long, not-marked, not-whole, fit, refused-is, given-is}
 use Rattle.report.proofs.read_report.Statement.{statement}
 use Rattle.report.proofs.read_report.Tie as tie

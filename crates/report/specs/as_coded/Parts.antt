@@ -1,21 +1,18 @@
 -- What reading a report gives: where its parts lie, and what its words say. That they are the report is a law (`parts-report` of
 -- proofs/Reading.antt). A part is the file's bytes from where it starts to where the
 -- next one does.
-use Prim.Native.Nat.{ℕ, _+_, _-_, _≤_}
+use Prim.Native.Nat.{ℕ, _≤_}
 use mathlib.Core.List.{List}
-use lib.ListN.{length, take, drop, replicate}
+use lib.ListN.{length, replicate}
 use Rattle.words.specs.declared.Refusal.{Refusal}
 use Rattle.words.specs.declared.Verdict.{Verdict}
 use Rattle.words.specs.declared.Verdict.the-variants.{Given, Refused}
 use Rattle.words.specs.Answer.{Res, ok, refuse, either}
+use Rattle.lent.specs.Parts.{between}
 use Rattle.machine.specs.declared.Regs.{Regs}
 use Rattle.frame.specs.Frame.{Inputs, inputs}
 use Rattle.report.specs.declared.Parts.{Parts}
 use Rattle.report.specs.Report.{Report, report, regsOf, headBytes, imageOf, rvaOf, baseOf, xdataAt, stackAt, endAt}
-
--- the bytes from one place of a file up to another
-abbrev pub between : List ℕ → (from to : ℕ) → List ℕ
-between s a e = take (e - a) (drop a s)
 
 -- the inputs and the report that parts are of
 abbrev pub inputsIn : List ℕ → Parts → Inputs

@@ -1,0 +1,11 @@
+pub mod Registers
+pub mod Table
+pub mod Opening
+pub mod Popping
+pub mod Closing
+pub mod Standing
+pub mod Entering
+pub mod Leaving
+pub mod Demand
+pub mod Lasting
+pub mod Meaning

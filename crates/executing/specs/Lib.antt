@@ -1,0 +1,3 @@
+pub mod Manual
+pub mod Executed
+pub mod Claims

@@ -1,0 +1,2 @@
+pub mod FitFile
+pub mod as_coded

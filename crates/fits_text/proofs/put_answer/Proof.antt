@@ -1,0 +1,25 @@
+-- Each arm lays the text of its answer.
+-- Assumes nothing.
+use borrow.Author.Needs.{needs}
+use Rattle.fits_text.proofs.put_answer.Statement.{statement}
+use Rattle.fits_text.proofs.put_answer.Tie as tie
+
+returns : tie.Need-returns
+returns c = rw (c .before .before .before .before .before .enum-told .given .1) (c .before .before .put-text .ensures)
+
+returns-2 : tie.Need-returns-2
+returns-2 c = rw (c .before .before .before .before .before .answer .given .1) (c .before .before .put-refusal .ensures)
+
+pub put-answer-spec : {M : Type 1} → statement M
+put-answer-spec =
+    tie.close
+    (tie.spec
+    (λ c. search needs)
+    (λ c. search needs)
+    (λ c κs. search needs)
+    (λ c. search needs)
+    (λ c κs. search needs)
+    (λ c. search needs)
+    returns
+    (λ c. search needs)
+    returns-2)
