@@ -24,7 +24,7 @@ use Rattle.thumb.specs.Instruction.{instructionAt}
 use Rattle.thumb.specs.declared.Action.{Action}
 use Rattle.thumb.specs.declared.Action.the-variants as T
 use Rattle.expected.specs.Expected.{loading, actsAfter}
-use Rattle.expected.specs.Items.{Coded, closes, item}
+use Rattle.comparing.specs.Items.{Coded, closes, item}
 use Rattle.fitting.specs.Exactly.{As, Stands}
 use Rattle.forward.specs.Registers.{value}
 use Rattle.forward.specs.Saving.{listed, saves, bytes}

@@ -17,8 +17,8 @@ use Rattle.codes.specs.declared.Code.{Code}
 use Rattle.pdata.specs.declared.Entry.{Entry}
 use Rattle.record.specs.Record.{shapeAt}
 use Rattle.frame.specs.Frame.{Inputs}
-use Rattle.expected.specs.Items.{Coded, sizeOf, codedAt, prologueItems, epilogueItems}
-use Rattle.expected.proofs.Scanning.{total-coded}
+use Rattle.comparing.specs.Items.{Coded, sizeOf, codedAt, prologueItems, epilogueItems}
+use Rattle.comparing.proofs.Scanning.{total-coded}
 use Rattle.fitting.specs.Exactly.{AllStand}
 use Rattle.fitting.specs.Fitting.{items}
 use Rattle.forward.specs.Saving.{RX}

@@ -12,7 +12,7 @@ use Rattle.unwinding.proofs.All.{All}
 use Rattle.codes.specs.declared.Code.{Code}
 use Rattle.codes.specs.declared.Undo.{Undo}
 use Rattle.codes.specs.declared.Undo.the-variants.{Up, Pop, SpFrom, Vpop, LoadLr, Nothing}
-use Rattle.expected.specs.Items.{Coded, sizeOf, prologueItems}
+use Rattle.comparing.specs.Items.{Coded, sizeOf, prologueItems}
 use Rattle.fitting.specs.Exactly.{AllStand}
 use Rattle.forward.specs.Saving.{falls}
 use Rattle.forward.specs.State.{State}

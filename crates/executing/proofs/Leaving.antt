@@ -16,7 +16,7 @@ use Rattle.codes.specs.declared.Undo.the-variants.{Up, Pop, SpFrom, Vpop, LoadL
 use Rattle.codes.proofs.Sound.{Sound}
 use Rattle.machine.specs.Step.{effect}
 use Rattle.machine.specs.declared.Regs.{Regs}
-use Rattle.expected.specs.Items.{Coded, sizeOf, closes, item, epilogueItems}
+use Rattle.comparing.specs.Items.{Coded, sizeOf, closes, item, epilogueItems}
 use Rattle.fitting.specs.Exactly.{Stands, AllStand}
 use Rattle.forward.specs.Saving.{RX}
 use Rattle.forward.specs.State.{State}

@@ -7,7 +7,7 @@ use Rattle.words.specs.Bits.{even}
 use Rattle.words.specs.Units.{halfwordBytes}
 use Rattle.thumb.specs.Instruction.{instructionAt}
 use Rattle.thumb.specs.declared.Action.{Action}
-use Rattle.expected.specs.Items.{leaves, item}
+use Rattle.comparing.specs.Items.{leaves, item}
 use Rattle.fitting.specs.Exactly.{Stands}
 use Rattle.forward.specs.State.{State}
 use Rattle.executing.specs.Manual.{Keeps, Acts, Next, Executes}

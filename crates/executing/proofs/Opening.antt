@@ -22,7 +22,7 @@ use Rattle.thumb.specs.Instruction.{instructionAt}
 use Rattle.thumb.specs.declared.Action.{Action}
 use Rattle.thumb.specs.declared.Action.the-variants.{Push, SubSp, Store}
 use Rattle.expected.specs.Expected.{home, storing, lowering, actsBefore}
-use Rattle.expected.specs.Items.{Coded, opens, item}
+use Rattle.comparing.specs.Items.{Coded, opens, item}
 use Rattle.expected.specs.declared.Acts.the-variants.{This, OrHome}
 use Rattle.fitting.specs.Exactly.{As, Stands}
 use Rattle.forward.specs.Registers.{width}

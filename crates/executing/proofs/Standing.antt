@@ -20,8 +20,8 @@ use Rattle.unwinding.proofs.Mapping.{mapped, epilogueOf, viewOf}
 use Rattle.codes.specs.Code.{size, codesAt}
 use Rattle.xdata.specs.Xdata.{fitXdata}
 use Rattle.record.specs.Record.{shapeAt}
-use Rattle.expected.specs.Items.{Coded, sizeOf, codedAt, Item, opens, item, isLast, prologueItems, epilogueItems}
-use Rattle.expected.proofs.Scanning.{view-coded}
+use Rattle.comparing.specs.Items.{Coded, sizeOf, codedAt, Item, opens, item, isLast, prologueItems, epilogueItems}
+use Rattle.comparing.proofs.Scanning.{view-coded}
 use Rattle.fitting.specs.Exactly.{Stands, AllStand}
 use Rattle.fitting.specs.Fitting.{epiloguesItems, items, fitted}
 use Rattle.fitting.specs.declared.Fitted.the-variants.{Fits}

@@ -19,8 +19,8 @@ use Rattle.codes.specs.declared.Undo.the-variants.{Up}
 use Rattle.codes.specs.declared.Meaning.the-variants.{Does}
 use Rattle.codes.proofs.Scanning.{took}
 use Rattle.codes.proofs.Sound.{Sound, sound-code}
-use Rattle.expected.specs.Items.{Coded, withFirst, takingCoded, scanCoded, codedAt}
-use Rattle.expected.proofs.Scanning.{takes-coded, taken-one}
+use Rattle.comparing.specs.Items.{Coded, withFirst, takingCoded, scanCoded, codedAt}
+use Rattle.comparing.proofs.Scanning.{takes-coded, taken-one}
 use Rattle.executing.specs.Claims.{In, here, later, IsCode}
 
 pub record Known (c : Coded) : Type 0 where

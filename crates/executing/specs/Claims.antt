@@ -16,7 +16,7 @@ use Rattle.machine.specs.declared.Regs.{Regs}
 use Rattle.frame.specs.Frame.{Inputs}
 use Rattle.frame.specs.declared.Unwound.{Unwound}
 use Rattle.thumb.specs.Instruction.{instructionAt}
-use Rattle.expected.specs.Items.{Coded, opens, closes, leaves, item, scanCoded}
+use Rattle.comparing.specs.Items.{Coded, opens, closes, leaves, item, scanCoded}
 use Rattle.fitting.specs.Exactly.{Stands}
 use Rattle.forward.specs.Registers.{value}
 use Rattle.forward.specs.Saving.{falls}

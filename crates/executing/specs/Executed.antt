@@ -25,7 +25,7 @@ use Rattle.pdata.specs.declared.Entry.{Entry}
 use Rattle.record.specs.Record.{shapeAt}
 use Rattle.frame.specs.Frame.{Inputs, fitStack}
 use Rattle.thumb.specs.Instruction.{instructionAt}
-use Rattle.expected.specs.Items.{Coded, sizeOf, codedAt}
+use Rattle.comparing.specs.Items.{Coded, sizeOf, codedAt}
 use Rattle.fitting.specs.Fitting.{fitted}
 use Rattle.fitting.specs.declared.Fitted.the-variants.{Fits}
 use Rattle.forward.specs.Saving.{RX}

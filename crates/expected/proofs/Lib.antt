@@ -1,4 +1,1 @@
 pub mod Equal
-pub mod Scanning
-pub mod Comparing
-pub mod Passing

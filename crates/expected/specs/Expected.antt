@@ -1,5 +1,5 @@
 -- The instruction that a code stands for, in a prologue (RULES 13.5) and in an epilogue (RULES 13.6).
-use Prim.Native.Nat.{ℕ, _+_, _^_}
+use Prim.Native.Nat.{ℕ, _+_, _^_, _<_}
 use mathlib.Core.Bool.{Bool, true, false, _&&_, _||_}
 use lib.Dec.{eqb}
 use Rattle.words.specs.Bits.{bit}
@@ -55,6 +55,15 @@ withPc l = if bit lr l then l + 2 ^ lr else l
 
 abbrev pub listOrPc : (last : Bool) → (list : ℕ) → ℕ
 listOrPc last l = if last then withPc l else l
+
+-- a list of registers as codes have them, so that PC's bit can be set in it
+abbrev pub Listed : Undo → Type 0
+Listed (U.Up n) = Unit {0}
+Listed (U.Pop l) = l < 2 ^ 15
+Listed (U.SpFrom x) = Unit {0}
+Listed (U.Vpop s e) = Unit {0}
+Listed (U.LoadLr n) = Unit {0}
+Listed U.Nothing = Unit {0}
 
 -- in an epilogue
 abbrev pub actsAfter : (last : Bool) → Undo → Acts

@@ -1,7 +1,5 @@
-// Which instruction a code stands for, in a prologue and in an epilogue (RULES 13.4 to 13.8), and the first instruction of a prologue or an
-// epilogue that is another one. It knows neither records nor files.
-pub mod passes; // prologues and epilogues in one pass
-
+// Which instruction a code stands for, in a prologue and in an epilogue, and whether an instruction is that one (RULES 13.5 to 13.8). It knows
+// neither lists of codes nor records.
 use codes::Code;
 use codes::Undo;
 use thumb::Action;
@@ -14,7 +12,6 @@ ghost use Prim.Native.Nat.{_^_, _<_};
 ghost use Rattle.words.specs.Units.{halfwordBytes};
 ghost use Rattle.expected.specs.Expected as E;
 ghost use Rattle.expected.specs.Same as S;
-ghost use Rattle.expected.specs.as_coded.Passes as P;
 
 // What the instruction must do.
 pub enum Acts {
@@ -30,12 +27,6 @@ pub enum Acts {
 pub struct Expected {
     pub acts: Acts,
     pub size: Halfwords,
-}
-
-// The first instruction that is not the expected one, by its offset.
-pub enum Compared {
-    Same,
-    Differs(u64),
 }
 
 // The kind of what an instruction does, as a number, and the numbers that go with it.
@@ -179,7 +170,7 @@ fn list_or_pc(last: bool, list: u32) -> u32
 
 // What the instruction of a code does in an epilogue, the last before FF or not.
 fn acts_after(last: bool, u: Undo) -> Acts
-    requires { ⌜ P.Listed u ⌝ }
+    requires { ⌜ E.Listed u ⌝ }
     ensures { λ r. ⌜ r ≡ E.actsAfter last u ⌝ }
 {
     match u {
@@ -193,7 +184,7 @@ fn acts_after(last: bool, u: Undo) -> Acts
 }
 
 // The instruction of a code in a prologue, by the code's first byte too.
-fn in_prologue(first: u8, c: Code) -> Expected
+pub fn in_prologue(first: u8, c: Code) -> Expected
     ensures { λ r. ⌜ r ≡ E.before first c ⌝ }
 {
     let undo = c.undo;
@@ -203,8 +194,8 @@ fn in_prologue(first: u8, c: Code) -> Expected
 }
 
 // The instruction of a code in an epilogue.
-fn in_epilogue(last: bool, c: Code) -> Expected
-    requires { ⌜ P.Listed (c .undo) ⌝ }
+pub fn in_epilogue(last: bool, c: Code) -> Expected
+    requires { ⌜ E.Listed (c .undo) ⌝ }
     ensures { λ r. ⌜ r ≡ E.after last c ⌝ }
 {
     let undo = c.undo;
@@ -214,7 +205,7 @@ fn in_epilogue(last: bool, c: Code) -> Expected
 }
 
 // The instruction of an end code, by its size: that of FD, or that of FE.
-fn at_end(size: Halfwords) -> Expected
+pub fn at_end(size: Halfwords) -> Expected
     ensures { λ r. ⌜ r ≡ E.ending (halfwordBytes size) ⌝ }
 {
     if size.0 == 1 {
@@ -247,7 +238,7 @@ fn allows(acts: Acts, a: Action) -> bool
 }
 
 // Whether an instruction is an expected one.
-fn meets(e: Expected, i: Instruction) -> bool
+pub fn meets(e: Expected, i: Instruction) -> bool
     ensures { λ r. ⌜ r ≡ E.meets e i ⌝ }
 {
     let acts = e.acts;

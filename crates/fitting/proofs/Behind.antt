@@ -17,9 +17,9 @@ use Rattle.unwinding.specs.View.{EpilogueOf, View}
 use Rattle.thumb.specs.Instruction.{of16, of32, noInstruction, instructionAt}
 use Rattle.thumb.specs.declared.Instruction.{Instruction}
 use Rattle.expected.specs.Expected.{allows, meets}
-use Rattle.expected.specs.Items.{Coded, sizeOf, Role, opens, closes, leaves, Item, fits, expects, compared, isLast, item, prologueItems, epilogueItems}
-use Rattle.expected.specs.declared.Compared.{Compared}
-use Rattle.expected.specs.declared.Compared.the-variants.{Same, Differs}
+use Rattle.comparing.specs.Items.{Coded, sizeOf, Role, opens, closes, leaves, Item, fits, expects, compared, isLast, item, prologueItems, epilogueItems}
+use Rattle.comparing.specs.declared.Compared.{Compared}
+use Rattle.comparing.specs.declared.Compared.the-variants.{Same, Differs}
 use Rattle.expected.specs.declared.Expected.{Expected}
 use Rattle.fitting.specs.Fitting.{epiloguesItems, items, answered, fitted}
 use Rattle.fitting.specs.Exactly.{InLine, Reads}

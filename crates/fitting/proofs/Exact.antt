@@ -21,10 +21,10 @@ use Rattle.codes.specs.Code.{size, codesAt}
 use Rattle.xdata.specs.Xdata.{fitXdata}
 use Rattle.record.specs.Record.{shapeAt}
 use Rattle.place.specs.Judged.{viewAt}
-use Rattle.expected.specs.Items.{Coded, sizeOf, codedAt, Item, compared}
-use Rattle.expected.specs.declared.Compared.{Compared}
-use Rattle.expected.specs.declared.Compared.the-variants as C
-use Rattle.expected.proofs.Scanning.{view-coded}
+use Rattle.comparing.specs.Items.{Coded, sizeOf, codedAt, Item, compared}
+use Rattle.comparing.specs.declared.Compared.{Compared}
+use Rattle.comparing.specs.declared.Compared.the-variants as C
+use Rattle.comparing.proofs.Scanning.{view-coded}
 use Rattle.fitting.specs.Fitting.{items, answered, viewFitted, shapeFitted, fitted}
 use Rattle.fitting.specs.Exactly.{InLine, Reads, Compares, Passes, DiffersAt, IsShort, Unread, Exactly}
 use Rattle.fitting.specs.declared.FitRefusal.{FitRefusal}

@@ -8,7 +8,7 @@ use Rattle.record.proofs.Opened as Tables
 use Rattle.lent.specs.Lent.{lent}
 use Rattle.lent.proofs.Bytes.{bytesOf}
 use Rattle.thumb.proofs.Opened as Thumb
-use Rattle.expected.specs.Items.{compared, prologueItems, epilogueItems}
+use Rattle.comparing.specs.Items.{compared, prologueItems, epilogueItems}
 use Rattle.expected.specs.Same.{same}
 use Rattle.fitting.specs.Fitting.{fitNumber, epiloguesItems, fitted}
 use Rattle.fitting.specs.declared.FitRefusal.the-variants.{Differs}

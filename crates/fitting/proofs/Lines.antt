@@ -27,8 +27,8 @@ use Rattle.unwinding.proofs.Viewed.{viewed}
 use Rattle.codes.specs.Code.{seen, taking, takeAt}
 use Rattle.codes.proofs.Scanning.{take-size, take-last}
 use Rattle.expected.specs.Expected.{ending}
-use Rattle.expected.specs.Items.{Coded, sizeOf, takingCoded, scanCoded, codedAt, Item, opens, closes, leaves, expects, item, isLast, prologueItems, epilogueItems}
-use Rattle.expected.proofs.Scanning.{takes-coded, taken-one, taken-last}
+use Rattle.comparing.specs.Items.{Coded, sizeOf, takingCoded, scanCoded, codedAt, Item, opens, closes, leaves, expects, item, isLast, prologueItems, epilogueItems}
+use Rattle.comparing.proofs.Scanning.{takes-coded, taken-one, taken-last}
 use Rattle.fitting.specs.Fitting.{epiloguesItems, items}
 use Rattle.fitting.specs.Exactly.{InLine}
 

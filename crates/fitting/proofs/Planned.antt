@@ -30,12 +30,12 @@ use Rattle.record.proofs.Shapes.{scopes-done, scopes-next}
 use Rattle.place.specs.as_coded.Look.{listSize, measured}
 use Rattle.place.specs.declared.Measured.{Measured}
 use Rattle.place.specs.declared.Measured.the-variants.{Bytes, Unread}
-use Rattle.expected.specs.Items.{Coded, sizeOf, scanCoded, codedAt, Item, prologueItems, epilogueItems, compared}
-use Rattle.expected.specs.as_coded.Passes.{orElse, prologuePass, epiloguePass}
-use Rattle.expected.specs.declared.Compared.{Compared}
-use Rattle.expected.specs.declared.Compared.the-variants.{Same}
-use Rattle.expected.proofs.Scanning.{scan-coded, codes-coded, total-coded}
-use Rattle.expected.proofs.Comparing.{compared-append, prologue-compared, epilogue-compared}
+use Rattle.comparing.specs.Items.{Coded, sizeOf, scanCoded, codedAt, Item, prologueItems, epilogueItems, compared}
+use Rattle.comparing.specs.as_coded.Passes.{orElse, prologuePass, epiloguePass}
+use Rattle.comparing.specs.declared.Compared.{Compared}
+use Rattle.comparing.specs.declared.Compared.the-variants.{Same}
+use Rattle.comparing.proofs.Scanning.{scan-coded, codes-coded, total-coded}
+use Rattle.comparing.proofs.Comparing.{compared-append, prologue-compared, epilogue-compared}
 use Rattle.fitting.specs.Fitting.{epiloguesItems, items}
 use Rattle.fitting.specs.as_coded.Passes.{openPass, scopeBy, scopePass, scopesPass}
 

@@ -14,11 +14,11 @@ use Rattle.words.proofs.Tests.{both}
 use Rattle.thumb.specs.declared.Action.{Action}
 use Rattle.expected.specs.Same.{same}
 use Rattle.expected.specs.Expected.{home, allows}
-use Rattle.expected.specs.Items.{Item, expects, fits, compared}
+use Rattle.comparing.specs.Items.{Item, expects, fits, compared}
 use Rattle.expected.specs.declared.Acts.{Acts}
 use Rattle.expected.specs.declared.Acts.the-variants.{Any, This, OrHome}
-use Rattle.expected.specs.declared.Compared.{Compared}
-use Rattle.expected.specs.declared.Compared.the-variants.{Same, Differs}
+use Rattle.comparing.specs.declared.Compared.{Compared}
+use Rattle.comparing.specs.declared.Compared.the-variants.{Same, Differs}
 use Rattle.expected.proofs.Equal.{same-equal, equal-same}
 use Rattle.fitting.specs.Exactly.{As, Stands, AllStand}
 

@@ -25,8 +25,8 @@ use Rattle.record.specs.as_coded.Plan.{byVerdict, shapeBy, readOf, codesIn}
 use Rattle.record.specs.declared.ReadOf.{ReadOf}
 use Rattle.record.proofs.Shapes.{read-shape}
 use Rattle.place.specs.Judged.{viewAt}
-use Rattle.expected.specs.Items.{Coded, sizeOf, codedAt}
-use Rattle.expected.proofs.Scanning.{view-coded}
+use Rattle.comparing.specs.Items.{Coded, sizeOf, codedAt}
+use Rattle.comparing.proofs.Scanning.{view-coded}
 use Rattle.fitting.specs.Fitting.{answered, viewFitted, shapeFitted, fitted}
 use Rattle.fitting.specs.as_coded.Passes.{planFitted}
 use Rattle.fitting.specs.declared.FitRefusal.the-variants.{Record, Short}

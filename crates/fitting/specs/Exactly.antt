@@ -18,7 +18,7 @@ use Rattle.record.specs.Record.{shapeAt}
 use Rattle.place.specs.Judged.{viewAt}
 use Rattle.thumb.specs.declared.Action.{Action}
 use Rattle.expected.specs.Expected.{home}
-use Rattle.expected.specs.Items.{Coded, sizeOf, codedAt, Item, expects}
+use Rattle.comparing.specs.Items.{Coded, sizeOf, codedAt, Item, expects}
 use Rattle.expected.specs.declared.Acts.{Acts}
 use Rattle.expected.specs.declared.Acts.the-variants.{Any, This, OrHome}
 use Rattle.fitting.specs.Fitting.{items}

@@ -12,9 +12,9 @@ use Rattle.unwinding.specs.Shape.{Shape}
 use Rattle.unwinding.specs.View.{EpilogueOf, View, view}
 use Rattle.xdata.specs.Xdata.{fitXdata}
 use Rattle.record.specs.Record.{shapeAt}
-use Rattle.expected.specs.Items.{Coded, sizeOf, codedAt, Item, prologueItems, epilogueItems, compared}
-use Rattle.expected.specs.declared.Compared.{Compared}
-use Rattle.expected.specs.declared.Compared.the-variants as C
+use Rattle.comparing.specs.Items.{Coded, sizeOf, codedAt, Item, prologueItems, epilogueItems, compared}
+use Rattle.comparing.specs.declared.Compared.{Compared}
+use Rattle.comparing.specs.declared.Compared.the-variants as C
 use Rattle.fitting.specs.declared.FitRefusal.{FitRefusal}
 use Rattle.fitting.specs.declared.FitRefusal.the-variants.{Record, Short, Differs}
 use Rattle.fitting.specs.declared.Fitted.{Fitted}

@@ -1,7 +1,6 @@
 // Whether a compiler's record fits its function's code (RULES 13.9, 13.10): each instruction of the prologue and of the epilogues is the one
 // that its code stands for. It knows neither registers nor files.
-use expected::Compared;
-use expected::passes;
+use comparing::Compared;
 use place::Measured;
 use place::layout;
 use reader::Scanned;
@@ -58,7 +57,7 @@ fn opened(t: &[u8; 256], codes: &[u8], fragment: bool, code: &[u8]) -> Compared
         return Compared::Same;
     }
     match reader::scan(t, codes, CodeBytes(0)) {
-        Scanned::Ends(list, _) => passes::prologue(t, codes, code, layout::bytes_of(list)),
+        Scanned::Ends(list, _) => comparing::prologue(t, codes, code, layout::bytes_of(list)),
         Scanned::Refused(_) => Compared::Same,
     }
 }
@@ -72,7 +71,7 @@ fn scope(t: &[u8; 256], codes: &[u8], span: u64, e: Scope, code: &[u8]) -> Compa
     match layout::measure(t, codes, index) {
         Measured::Bytes(size) => {
             let w = layout::epilogue_span(e, span, size);
-            passes::epilogue(t, codes, index, code, w.start)
+            comparing::epilogue(t, codes, index, code, w.start)
         }
         Measured::Unread(_) => Compared::Same,
     }

@@ -1,6 +1,6 @@
 -- By the cases of what a code undoes. Assumes nothing.
 use mathlib.Core.Path.{subst}
-use Rattle.expected.specs.as_coded.Passes.{Listed}
+use Rattle.expected.specs.Expected.{Listed}
 use borrow.Author.Needs.{needs}
 use Rattle.expected.proofs.acts_after.Statement.{statement}
 use Rattle.expected.proofs.acts_after.Tie as tie

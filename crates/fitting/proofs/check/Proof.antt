@@ -1,6 +1,6 @@
 -- By the tests in their order. Assumes nothing.
 use mathlib.Core.Path.{sym, _∙_}
-use Rattle.expected.proofs.Passing.{not-false, not-true}
+use Rattle.comparing.proofs.Passing.{not-false, not-true}
 use Rattle.fitting.proofs.Whole.{fit-unfit, fit-refused}
 use borrow.Author.Needs.{needs}
 use Rattle.fitting.proofs.check.Statement.{statement}

@@ -1,8 +1,8 @@
 -- By what the prologue comes to. Assumes nothing.
 use mathlib.Core.Path.{sym, ap, _∙_}
 use Rattle.record.specs.as_coded.Plan.{scopesFrom}
-use Rattle.expected.specs.as_coded.Passes.{orElse}
-use Rattle.expected.specs.declared.Compared.{Compared}
+use Rattle.comparing.specs.as_coded.Passes.{orElse}
+use Rattle.comparing.specs.declared.Compared.{Compared}
 use Rattle.fitting.specs.as_coded.Passes.{scopesPass}
 use borrow.Author.Needs.{needs}
 use Rattle.fitting.proofs.compare.Statement.{statement}

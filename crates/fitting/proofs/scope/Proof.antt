@@ -1,8 +1,8 @@
 -- By its measure. Assumes nothing.
 use mathlib.Core.Path.{sym, ap, ap₂, _∙_}
 use native.Mathlib.Omega.{arith}
-use Rattle.expected.specs.Items.{scanCoded}
-use Rattle.expected.specs.as_coded.Passes.{epiloguePass}
+use Rattle.comparing.specs.Items.{scanCoded}
+use Rattle.comparing.specs.as_coded.Passes.{epiloguePass}
 use Rattle.place.specs.declared.EpilogueSpan.{EpilogueSpan}
 use Rattle.fitting.specs.as_coded.Passes.{scopeBy}
 use borrow.Author.Needs.{needs}

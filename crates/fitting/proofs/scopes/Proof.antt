@@ -7,8 +7,8 @@ use native.Mathlib.Omega.{arith}
 use borrow.Author.Needs.{needs}
 use Rattle.record.specs.as_coded.Plan.{scopesFrom}
 use Rattle.record.proofs.Shapes.{scopes-inside}
-use Rattle.expected.specs.as_coded.Passes.{orElse}
-use Rattle.expected.specs.declared.Compared.{Compared}
+use Rattle.comparing.specs.as_coded.Passes.{orElse}
+use Rattle.comparing.specs.declared.Compared.{Compared}
 use Rattle.fitting.specs.as_coded.Passes.{scopePass, scopesPass}
 use Rattle.fitting.proofs.Planned.{pass-done, pass-next}
 use Rattle.fitting.proofs.scopes.Statement.{statement}

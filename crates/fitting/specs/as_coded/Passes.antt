@@ -15,10 +15,10 @@ use Rattle.record.specs.declared.Plan.{Plan}
 use Rattle.place.specs.as_coded.Look.{measured}
 use Rattle.place.specs.declared.Measured.{Measured}
 use Rattle.place.specs.declared.Measured.the-variants.{Bytes, Unread}
-use Rattle.expected.specs.Items.{scanCoded}
-use Rattle.expected.specs.as_coded.Passes.{orElse, prologuePass, epiloguePass}
-use Rattle.expected.specs.declared.Compared.{Compared}
-use Rattle.expected.specs.declared.Compared.the-variants.{Same}
+use Rattle.comparing.specs.Items.{scanCoded}
+use Rattle.comparing.specs.as_coded.Passes.{orElse, prologuePass, epiloguePass}
+use Rattle.comparing.specs.declared.Compared.{Compared}
+use Rattle.comparing.specs.declared.Compared.the-variants.{Same}
 use Rattle.fitting.specs.Fitting.{answered}
 use Rattle.fitting.specs.declared.FitRefusal.the-variants.{Short}
 use Rattle.fitting.specs.declared.Fitted.{Fitted}

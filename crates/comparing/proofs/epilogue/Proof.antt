@@ -12,14 +12,14 @@ use Rattle.words.proofs.Tests.{if-true, if-false}
 use Rattle.unwinding.proofs.Scanning.{take-next}
 use Rattle.codes.specs.Code.{size, seen}
 use Rattle.codes.proofs.Scanning.{takes, take-size}
 use Rattle.expected.specs.Expected.{after}
-use Rattle.expected.specs.Items.{scanCoded}
-use Rattle.expected.specs.as_coded.Passes.{lastOf, test, epiloguePass}
-use Rattle.expected.specs.declared.Compared.the-variants.{Differs}
-use Rattle.expected.proofs.Scanning.{scan-last, scan-bad}
-use Rattle.expected.proofs.Passing.{not-false, not-true, taken-listed, scan-past, epilogue-one, epilogue-none}
-use Rattle.expected.proofs.passes.epilogue.Statement.{statement}
-use Rattle.expected.proofs.passes.epilogue.Tie as tie
+use Rattle.comparing.specs.Items.{scanCoded}
+use Rattle.comparing.specs.as_coded.Passes.{lastOf, test, epiloguePass}
+use Rattle.comparing.specs.declared.Compared.the-variants.{Differs}
+use Rattle.comparing.proofs.Scanning.{scan-last, scan-bad}
+use Rattle.comparing.proofs.Passing.{not-false, not-true, taken-listed, scan-past, epilogue-one, epilogue-none}
+use Rattle.comparing.proofs.epilogue.Statement.{statement}
+use Rattle.comparing.proofs.epilogue.Tie as tie
 
 abbrev Inv-loop : tie.InvT-loop
 Inv-loop t codes code start at₀ i₀ at i =

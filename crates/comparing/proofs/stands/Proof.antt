@@ -1,7 +1,7 @@
 -- The instruction that is read, and the test. Assumes nothing.
 use borrow.Author.Needs.{needs}
-use Rattle.expected.proofs.passes.stands.Statement.{statement}
-use Rattle.expected.proofs.passes.stands.Tie as tie
+use Rattle.comparing.proofs.stands.Statement.{statement}
+use Rattle.comparing.proofs.stands.Tie as tie
 
 read-at-requires : tie.Need-read-at-requires
 read-at-requires c κs = search needs

@@ -7,11 +7,11 @@ use mathlib.Core.Bool.{Bool, true, false, _||_}
 use lib.Dec.{eqb}
 use Rattle.words.specs.Answer.{Res, ok, refuse, if_then_else_}
 use Rattle.unwinding.specs.CodeList.{total}
 use Rattle.expected.specs.Expected.{before, after, ending, meets}
-use Rattle.expected.specs.Items.{Coded, sizeOf, Role, opens, closes, leaves, Item, fits, compared, isLast, item, prologueItems, epilogueItems}
-use Rattle.expected.specs.as_coded.Passes.{lastOf, orElse, test, prologuePass, endPass, epiloguePass}
-use Rattle.expected.specs.declared.Compared.{Compared}
-use Rattle.expected.specs.declared.Compared.the-variants.{Same, Differs}
+use Rattle.comparing.specs.Items.{Coded, sizeOf, Role, opens, closes, leaves, Item, fits, compared, isLast, item, prologueItems, epilogueItems}
+use Rattle.comparing.specs.as_coded.Passes.{lastOf, orElse, test, prologuePass, endPass, epiloguePass}
+use Rattle.comparing.specs.declared.Compared.{Compared}
+use Rattle.comparing.specs.declared.Compared.the-variants.{Same, Differs}
 
 pub compared-append : (a b : List Item) → compared (a ++ b) ≡ orElse (compared a) (compared b)
 unfolding compared

@@ -1,8 +1,8 @@
 -- By its flag. Assumes nothing.
 use Rattle.words.proofs.Tests.{if-true, if-false}
 use borrow.Author.Needs.{needs}
-use Rattle.expected.proofs.passes.noted.Statement.{statement}
-use Rattle.expected.proofs.passes.noted.Tie as tie
+use Rattle.comparing.proofs.noted.Statement.{statement}
+use Rattle.comparing.proofs.noted.Tie as tie
 
 returns : tie.Need-returns
 returns c = if-true _ _ (c .if1 .taken)

@@ -1,28 +1,17 @@
 -- Prologues and epilogues compared in one pass over their codes, as the code does it. That this is comparing the items in turn are laws
 -- (`prologue-compared`, `epilogue-compared` of proofs/Comparing.antt).
-use Prim.Native.Nat.{ℕ, _+_, _^_, _<_}
+use Prim.Native.Nat.{ℕ, _+_}
 use mathlib.Core.List.{List, [], _∷_}
 use mathlib.Core.Bool.{Bool, false, _||_}
 use lib.Dec.{eqb}
 use Rattle.words.specs.Answer.{Res, ok, refuse, if_then_else_}
 use Rattle.unwinding.specs.CodeList.{total}
-use Rattle.codes.specs.declared.Undo.{Undo}
-use Rattle.codes.specs.declared.Undo.the-variants.{Up, Pop, SpFrom, Vpop, LoadLr, Nothing}
 use Rattle.thumb.specs.Instruction.{instructionAt}
 use Rattle.expected.specs.Expected.{before, after, ending, meets}
-use Rattle.expected.specs.Items.{Coded, sizeOf}
+use Rattle.comparing.specs.Items.{Coded, sizeOf}
 use Rattle.expected.specs.declared.Expected.{Expected}
-use Rattle.expected.specs.declared.Compared.{Compared}
-use Rattle.expected.specs.declared.Compared.the-variants.{Same, Differs}
-
--- a list of registers as codes have them, so that PC's bit can be set in it
-abbrev pub Listed : Undo → Type 0
-Listed (Up n) = Unit {0}
-Listed (Pop l) = l < 2 ^ 15
-Listed (SpFrom x) = Unit {0}
-Listed (Vpop s e) = Unit {0}
-Listed (LoadLr n) = Unit {0}
-Listed Nothing = Unit {0}
+use Rattle.comparing.specs.declared.Compared.{Compared}
+use Rattle.comparing.specs.declared.Compared.the-variants.{Same, Differs}
 
 -- the list ends in FF
 abbrev pub returnsHere : Res ℕ → Bool

@@ -22,7 +22,7 @@ use Rattle.codes.specs.declared.Code.{Code}
 use Rattle.codes.specs.declared.Taken.{Taken}
 use Rattle.codes.specs.declared.Taken.the-variants.{One, Last, Bad}
 use Rattle.codes.proofs.Scanning.{takes}
-use Rattle.expected.specs.Items.{Coded, sizeOf, withFirst, takingCoded, scanCoded, codedAt}
+use Rattle.comparing.specs.Items.{Coded, sizeOf, withFirst, takingCoded, scanCoded, codedAt}
 
 abbrev pub coded : Code → ℕ → Coded
 coded c b = record { code = c; first = b }

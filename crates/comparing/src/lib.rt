@@ -1,10 +1,10 @@
-// A prologue's and an epilogue's instructions in one pass over their codes: the first that is not the one of its code (RULES 13.4).
-use super::Compared;
-use super::Expected;
+// A prologue's and an epilogue's instructions in one pass over their codes: the first that is not the one of its code (RULES 13.4). It knows
+// neither records nor files.
 use codes::Sized;
 use codes::Taken;
 use codes::size_at;
 use codes::take_at;
+use expected::Expected;
 use words::CodeBytes;
 use words::Halfwords;
 use words::halfword_bytes;
@@ -15,14 +15,20 @@ ghost use Rattle.words.specs.Units.{codeBytes, halfwordBytes};
 ghost use Rattle.words.specs.Answer.{ok, if_then_else_};
 ghost use Rattle.unwinding.specs.CodeList.{total};
 ghost use Rattle.codes.specs.as_coded.Rows.{rowNumbers};
-ghost use Rattle.expected.specs.Items.{sizeOf, scanCoded};
-ghost use Rattle.expected.specs.as_coded.Passes as P;
+ghost use Rattle.comparing.specs.Items.{sizeOf, scanCoded};
+ghost use Rattle.comparing.specs.as_coded.Passes as P;
+
+// The first instruction that is not the expected one, by its offset.
+pub enum Compared {
+    Same,
+    Differs(u64),
+}
 
 // Whether the instruction at an offset is an expected one.
 fn stands(code: &[u8], at: u64, e: Expected) -> bool
     ensures { λ r. ⌜ r ≡ P.test (now (code .entry)) at e ⌝ }
 {
-    super::meets(e, thumb::read_at(code, at as usize))
+    expected::meets(e, thumb::read_at(code, at as usize))
 }
 
 // What is found with one more test, at an offset below the others.
@@ -47,7 +53,7 @@ pub fn prologue(t: &[u8; 256], codes: &[u8], code: &[u8], size: u64) -> Compared
             Taken::One(c, next) => {
                 let n = c.size;
                 left -= halfword_bytes(n);
-                let met = stands(code, left, super::in_prologue(codes[i], c));
+                let met = stands(code, left, expected::in_prologue(codes[i], c));
                 found = noted(found, met, left);
                 i = next.0;
             }
@@ -81,7 +87,7 @@ fn end_at(code: &[u8], at: u64, size: Halfwords) -> Compared
     if size.0 == 0 {
         return Compared::Same;
     }
-    noted(Compared::Same, stands(code, at, super::at_end(size)), at)
+    noted(Compared::Same, stands(code, at, expected::at_end(size)), at)
 }
 
 // The same of an epilogue from an offset on, whose codes are those from an index: the first code's instruction stands first.
@@ -96,7 +102,7 @@ pub fn epilogue(t: &[u8; 256], codes: &[u8], index: CodeBytes, code: &[u8], star
         match taken {
             Taken::One(c, next) => {
                 let n = c.size;
-                if !stands(code, at, super::in_epilogue(returns_at(t, codes, next), c)) {
+                if !stands(code, at, expected::in_epilogue(returns_at(t, codes, next), c)) {
                     return Compared::Differs(at);
                 }
                 at += halfword_bytes(n);

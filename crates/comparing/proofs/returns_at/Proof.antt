@@ -1,9 +1,9 @@
 -- By what was taken. Assumes nothing.
 use mathlib.Core.Path.{sym, ap, _∙_}
-use Rattle.expected.proofs.Passing.{lastBy, last-taken}
+use Rattle.comparing.proofs.Passing.{lastBy, last-taken}
 use borrow.Author.Needs.{needs}
-use Rattle.expected.proofs.passes.returns_at.Statement.{statement}
-use Rattle.expected.proofs.passes.returns_at.Tie as tie
+use Rattle.comparing.proofs.returns_at.Statement.{statement}
+use Rattle.comparing.proofs.returns_at.Tie as tie
 
 size-at-requires : tie.Need-size-at-requires
 size-at-requires c κs = search needs

@@ -26,12 +26,12 @@ use Rattle.codes.specs.declared.Sized.the-variants as Z
 use Rattle.codes.proofs.Scanning.{took}
 use Rattle.codes.proofs.Sound.{Sound, sound-code}
 use Rattle.codes.proofs.Registers.{list-small}
-use Rattle.expected.specs.Expected.{before, after}
-use Rattle.expected.specs.Items.{Coded, sizeOf, scanCoded}
-use Rattle.expected.specs.as_coded.Passes.{Listed, lastOf, test, prologuePass, endPass, epiloguePass}
-use Rattle.expected.specs.declared.Compared.{Compared}
-use Rattle.expected.specs.declared.Compared.the-variants.{Same, Differs}
-use Rattle.expected.proofs.Scanning.{coded, scan-one, scan-last, scan-bad}
+use Rattle.expected.specs.Expected.{Listed, before, after}
+use Rattle.comparing.specs.Items.{Coded, sizeOf, scanCoded}
+use Rattle.comparing.specs.as_coded.Passes.{lastOf, test, prologuePass, endPass, epiloguePass}
+use Rattle.comparing.specs.declared.Compared.{Compared}
+use Rattle.comparing.specs.declared.Compared.the-variants.{Same, Differs}
+use Rattle.comparing.proofs.Scanning.{coded, scan-one, scan-last, scan-bad}
 
 -- a test whose opposite was made
 pub not-false : (b : Bool) → not b ≡ false → b ≡ true

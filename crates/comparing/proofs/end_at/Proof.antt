@@ -4,8 +4,8 @@ use mathlib.Core.Path.{_≡_, sym, ap, _∙_}
 use native.Mathlib.Omega.{arith}
 use borrow.Author.Tests.{eq-eqb, ne-eqb}
 use borrow.Author.Needs.{needs}
-use Rattle.expected.proofs.passes.end_at.Statement.{statement}
-use Rattle.expected.proofs.passes.end_at.Tie as tie
+use Rattle.comparing.proofs.end_at.Statement.{statement}
+use Rattle.comparing.proofs.end_at.Tie as tie
 
 returns : tie.Need-returns
 returns c = simp (eq-eqb _ 0 (let z : 2 * c .before .before .before .args .size .0 ≡ 0 = omega (arith, c .if1 .taken) in z))

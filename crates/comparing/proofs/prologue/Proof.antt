@@ -12,14 +12,14 @@ use Rattle.unwinding.specs.CodeList.{total}
 use Rattle.unwinding.proofs.Scanning.{take-next}
 use Rattle.codes.specs.Code.{seen}
 use Rattle.codes.proofs.Scanning.{takes}
 use Rattle.expected.specs.Expected.{before}
-use Rattle.expected.specs.Items.{sizeOf, scanCoded}
-use Rattle.expected.specs.as_coded.Passes.{test, prologuePass}
-use Rattle.expected.specs.declared.Compared.the-variants.{Same, Differs}
-use Rattle.expected.proofs.Scanning.{scan-last, scan-bad}
-use Rattle.expected.proofs.Passing.{scan-past, total-one, prologue-one, prologue-none}
-use Rattle.expected.proofs.passes.prologue.Statement.{statement}
-use Rattle.expected.proofs.passes.prologue.Tie as tie
+use Rattle.comparing.specs.Items.{sizeOf, scanCoded}
+use Rattle.comparing.specs.as_coded.Passes.{test, prologuePass}
+use Rattle.comparing.specs.declared.Compared.the-variants.{Same, Differs}
+use Rattle.comparing.proofs.Scanning.{scan-last, scan-bad}
+use Rattle.comparing.proofs.Passing.{scan-past, total-one, prologue-one, prologue-none}
+use Rattle.comparing.proofs.prologue.Statement.{statement}
+use Rattle.comparing.proofs.prologue.Tie as tie
 
 abbrev Inv-loop : tie.InvT-loop
 Inv-loop t codes code size found₀ left₀ i₀ found left i =

@@ -14,10 +14,10 @@ use Rattle.codes.specs.Code.{size, taking, bytesOf}
 use Rattle.codes.specs.declared.Code.{Code}
 use Rattle.thumb.specs.Instruction.{instructionAt}
 use Rattle.thumb.specs.declared.Instruction.{Instruction}
 use Rattle.expected.specs.Expected.{before, after, ending, meets}
 use Rattle.expected.specs.declared.Expected.{Expected}
-use Rattle.expected.specs.declared.Compared.{Compared}
-use Rattle.expected.specs.declared.Compared.the-variants.{Same, Differs}
+use Rattle.comparing.specs.declared.Compared.{Compared}
+use Rattle.comparing.specs.declared.Compared.the-variants.{Same, Differs}
 
 -- a code beside its first byte, which tells 04 from F7 00 04
 pub record Coded : Type 0 where

@@ -1,0 +1,3 @@
+pub mod Scanning
+pub mod Comparing
+pub mod Passing
