@@ -102,7 +102,11 @@ pub fn epilogue(t: &[u8; 256], codes: &[u8], index: CodeBytes, code: &[u8], star
         match taken {
             Taken::One(c, next) => {
                 let n = c.size;
-                if !stands(code, at, expected::in_epilogue(returns_at(t, codes, next), c)) {
+                if !stands(
+                    code,
+                    at,
+                    expected::in_epilogue(returns_at(t, codes, next), c),
+                ) {
                     return Compared::Differs(at);
                 }
                 at += halfword_bytes(n);
