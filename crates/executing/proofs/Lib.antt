@@ -9,3 +9,4 @@ pub mod Leaving
 pub mod Demand
 pub mod Lasting
 pub mod Meaning
+pub mod Examples

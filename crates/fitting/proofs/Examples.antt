@@ -15,7 +15,7 @@ use Rattle.fitting.specs.declared.FitRefusal.the-variants.{Differs}
 use Rattle.fitting.specs.declared.Fitted.{Fitted}
 use Rattle.fitting.specs.declared.Fitted.the-variants.{Fits, Refused}
 
-unfoldable opened : Unit {0}
+unfoldable pub opened : Unit {0}
 unfolding Tables.opened Thumb.opened compared prologueItems epilogueItems same epiloguesItems fitted
 opened = tt
 
