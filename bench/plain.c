@@ -196,7 +196,8 @@ static int packed_record(u32 w, struct record *rec) {
     u32 pushed = saved | (pf ? homed : 0), popped = saved | (ef ? homed : 0);
     u8 *out = put_up(rec->written, pf ? 0 : amount);
     if (vpops) *out++ = 0xE0 | reg;
-    if (c) *out++ = 0xFC;
+    // mov r11,sp where only r11 and LR are pushed: with C=1 LR is.
+    if (c) *out++ = pushed == 1 << 11 ? 0xFB : 0xFC;
     out = put_pop(out, pushed < 256, pushed, l);
     if (h) *out++ = 4;
     *out++ = 0xFF;

@@ -14,3 +14,5 @@ pub mod Contracts
 pub mod Regions
 pub mod RegionsWider
 pub mod Fitting
+pub mod Chain
+pub mod ChainExamples

@@ -20,7 +20,7 @@ use Rattle.packed_codes.proofs.Written.{codes-given}
 use Rattle.packed_codes.proofs.Decoding.{holds}
 use Rattle.demands.specs.Reader.{ours}
 use Rattle.demands.specs.PackedLaws.{PackedLaws}
-use Rattle.demands.specs.Shams.{forgetting, narrow-pop, unreversed}
+use Rattle.demands.specs.Shams.{forgetting, narrow-pop, unreversed, wide-chain}
 
 -- ---- ours
 accepted : (p : Packed) → ours .word p .verdict ≡ (if fieldsFit p && allowed p then Given else Refused Reserved)
@@ -95,3 +95,9 @@ no-unreversed : PackedLaws unreversed → ⊥
 unfolding opened first-size
 no-unreversed h =
     let z : _≡_ {A = ℕ} 1 2 = ap first-size (h .lists 0x20110041 refl .first .read) in omega arith
+
+-- push.w {r11,lr}; mov r11,sp: the last instruction has 16 bits
+no-wide-chain : PackedLaws wide-chain → ⊥
+unfolding opened first-size
+no-wide-chain h =
+    let z : _≡_ {A = ℕ} 2 1 = ap first-size (h .lists 0x003F0041 refl .first .read) in omega arith

@@ -9,3 +9,4 @@ pub mod Demand2
 pub mod Shams
 pub mod Regions
 pub mod Fitting
+pub mod Chain

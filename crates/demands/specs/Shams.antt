@@ -97,3 +97,7 @@ narrow-pop = coding 0x00102041 (0xD4 ∷ 0xFF ∷ []) (0xD4 ∷ 0xFD ∷ [])
 -- the prologue's codes not in reverse: push {r4,r5,lr}; sub sp,#512
 abbrev pub unreversed : Reader
 unreversed = coding 0x20110041 (0xD5 ∷ 0xE8 ∷ 0x80 ∷ 0xFF ∷ []) (0xE8 ∷ 0x80 ∷ 0xD5 ∷ 0xFF ∷ [])
+
+-- a code writer that gives mov r11,sp 32 bits, as before order 4 (RULES 4.21)
+abbrev pub wide-chain : Reader
+wide-chain = coding 0x003F0041 (0xFC ∷ 0xA8 ∷ 0x00 ∷ 0xFF ∷ []) (0xA8 ∷ 0x00 ∷ 0xFF ∷ [])

@@ -57,6 +57,20 @@ fragment : packed 0x00910042 (bytesOf (0 ∷ body ++ (0xBD30B002 ∷ []))) ≡ F
 unfolding opened
 fragment = refl
 
+-- push.w {r11,lr}; mov r11,sp; sub sp,#8: the nop has 16 bits (RULES 4.21), so add.w r11,sp,#0 is not its instruction
+chained : packed 0x00BF0041 (bytesOf (0x4800E92D ∷ 0xB08246EB ∷ replicate 4 0xBF00BF00 ++ (0xB002BF00 ∷ 0x8800E8BD ∷ []))) ≡ Fits
+unfolding opened
+chained = refl
+
+chained-32 : packed 0x00BF0041 (bytesOf (0x4800E92D ∷ 0x0B00F10D ∷ 0xBF00B082 ∷ replicate 3 0xBF00BF00 ++ (0xB002BF00 ∷ 0x8800E8BD ∷ []))) ≡ Refused (Differs 4)
+unfolding opened
+chained-32 = refl
+
+-- with PF=1, push.w {r3,r11,lr}; add.w r11,sp,#4: it has 32
+chained-folded : packed 0xFF3F0041 (bytesOf (0x4808E92D ∷ 0x0B04F10D ∷ replicate 5 0xBF00BF00 ++ (0x8808E8BD ∷ []))) ≡ Fits
+unfolding opened
+chained-folded = refl
+
 -- ---- a full record, 18 bytes long, its one epilogue at the end and its codes in one word
 abbrev full : (codes : ℕ) → (code : List ℕ) → Fitted
 full c s = fitted (lent 0x3000 (bytesOf (0x10200009 ∷ c ∷ []))) 0x3000 (bytesOf s)

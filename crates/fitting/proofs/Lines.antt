@@ -10,14 +10,13 @@ use native.Mathlib.Omega.{arith}
 use borrow.Author.Tests.{leb-true, leb-false, eqb-true, eqb-false}
 use Rattle.words.specs.Units.{codeBytes, halfwordBytes}
 use Rattle.words.specs.declared.CodeBytes.{CodeBytes}
-use Rattle.words.specs.declared.Refusal.the-variants.{BadLayout}
 use Rattle.words.specs.Answer.{ok, if_then_else_}
-use Rattle.words.proofs.Answers.{bind-ok, need-ok, ok-same}
+use Rattle.words.proofs.Answers.{bind-ok, ok-same}
 use Rattle.words.proofs.Tests.{both}
 use Rattle.unwinding.specs.CodeList.{Codes, total}
 use Rattle.unwinding.specs.Shape.{Shape, startOf}
 use Rattle.unwinding.specs.Taking.{Scan, one, last}
-use Rattle.unwinding.specs.View.{EpilogueOf, View, Stretch, stretch, fits, epilogues, view}
+use Rattle.unwinding.specs.View.{EpilogueOf, View, Stretch, stretch, epilogues, view}
 use Rattle.unwinding.specs.as_coded.Lined.{empty, reachOf, next, lined}
 use Rattle.unwinding.specs.declared.Scope.{Scope}
 use Rattle.unwinding.proofs.All.{All, Sized}
@@ -152,24 +151,13 @@ module _ (s : List ℕ) where
               (line-from r (x .start) (x .start + x .size) (epilogueItems s (x .start) (x .codes .list) (x .codes .endSize)) (leb-true _ _ q) here)
               (ih (x .start + 1) (x .start + x .size) l k)
 
-  -- the prologue of a view
-  prologue-size : (sh : Shape) (v : View Coded) → view sizeOf codedAt sh ≡ ok v → v .prologue ≡ (if sh .fragment then 0 else total sizeOf (v .codes .list))
-  unfolding view
-  prologue-size sh v h =
-      let a = bind-ok (codedAt (sh .codes) (codeBytes 0)) _ v h in
-      let b = bind-ok (epilogues sizeOf codedAt sh (sh .scopes)) _ v (a .2) in
-      let p : ℕ = if sh .fragment then 0 else total sizeOf (a .0 .list) in
-      let c = need-ok (fits (sh .span) p (b .0)) BadLayout (ok (record { codes = a .0; prologue = p; epilogues = b .0 })) v (b .2) in
-      let e : record { codes = a .0; prologue = p; epilogues = b .0 } ≡ v = ok-same _ _ (c .1) in
-      sym (ap (λ (w : View Coded). w .prologue) e) ∙ ap (λ (w : View Coded). if sh .fragment then 0 else total sizeOf (w .codes .list)) e
-
   pub items-line : (sh : Shape) (v : View Coded) → view sizeOf codedAt sh ≡ ok v → InLine 0 (items s (sh .fragment) v) (sh .span)
   items-line sh v q =
       let w = viewed sizeOf codedAt sh v q in
       let k = both (leb (v .prologue) (sh .span)) _ (sym (fits-lined (sh .span) (v .prologue) (v .epilogues)) ∙ w .fit) in
       let low = leb-true _ _ (k .0) in
       let rest = epilogues-line sh (sh .scopes) (v .epilogues) 0 (v .prologue) (w .epilogues) (k .1) low in
-      go (sh .fragment) (prologue-size sh v q) rest (ends (sh .codes) (codeBytes 0) (v .codes) (w .codes) .sized)
+      go (sh .fragment) (w .prologue) rest (ends (sh .codes) (codeBytes 0) (v .codes) (w .codes) .sized)
     where
       go :
           (f : Bool) → v .prologue ≡ (if f then 0 else total sizeOf (v .codes .list)) → InLine (v .prologue) (epiloguesItems s (v .epilogues)) (sh .span) → Sized sizeOf (v .codes .list)

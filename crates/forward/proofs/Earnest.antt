@@ -46,7 +46,7 @@ use Rattle.forward.proofs.Storing.{store, store-outside, word-store}
 use Rattle.forward.proofs.Real.{Solid, set-real, set-sp-real, store-real}
 use Rattle.forward.proofs.Executing.{standing, done-place, after, after-solid}
 use Rattle.forward.proofs.Reaching.{words-same, idle, solid-of, plain-of, stood, less-room, met}
-use Rattle.forward.proofs.Examples.{Tables, inputs, own, shape, views, known, Entered, in-onward, in-used, in-leaving, prologue-run, code, up2, up4, nop, pop45lr, pop4511lr, pop4to9lr, spR7, rx7, plain, homes, chain, framed, handles}
+use Rattle.forward.proofs.Examples.{Tables, inputs, own, shape, views, known, Entered, in-onward, in-used, in-leaving, prologue-run, code, up2, up4, nop, nop1, pop45lr, pop4511lr, pop4to9lr, spR7, rx7, plain, homes, chain, framed, handles}
 
 -- ---- a register written
 abbrev writes : (x v : ℕ) → State → State
@@ -284,9 +284,6 @@ chain-8-set e v b h =
 -- one of an epilogue sets r12
 abbrev pub idles : Tables
 idles = record { word = 0x00003000; xdata = (0x10200010 ∷ 0xFDD502FB ∷ []) }
-
-abbrev nop1 : Code
-nop1 = code Nothing 1
 
 ran-none : {rX : ℕ → Type 0} {s t : State} → Ran rX [] s t → t ≡ s
 ran-none Leaving.none = refl

@@ -196,6 +196,9 @@ up128 = code (Up (stackWords 128)) 2
 abbrev pub nop : Code
 nop = code Nothing 2
 
+abbrev pub nop1 : Code
+nop1 = code Nothing 1
+
 abbrev pub pop45 : Code
 pop45 = code (Pop (2 ^ 4 + 2 ^ 5)) 1
 
@@ -211,6 +214,9 @@ pop345lr = code (Pop (2 ^ 3 + 2 ^ 4 + 2 ^ 5 + 2 ^ 14)) 1
 
 abbrev pub pop4511lr : Code
 pop4511lr = code (Pop (2 ^ 4 + 2 ^ 5 + 2 ^ 11 + 2 ^ 14)) 2
+
+abbrev pub pop11lr : Code
+pop11lr = code (Pop (2 ^ 11 + 2 ^ 14)) 2
 
 abbrev pub pop3lr : Code
 pop3lr = code (Pop (2 ^ 3 + 2 ^ 14)) 1
@@ -297,6 +303,26 @@ chain-A e h = in-body chain e h 0xA refl (inl (omega arith), tt) (tt, (tt, (tt, 
 pub chain-1C : (e : State) → Entered e → Reaches (inputs chain) e 0x1C Epilogue (pop4511lr ∷ [])
 unfolding opened
 chain-1C e h = in-epilogue chain e h (up2 ∷ []) (pop4511lr ∷ []) refl here (packed (λ q. omega arith) (λ d. refl)) refl refl (tt, (tt, (tt, tt))) (omega arith)
+
+-- ---- C with nothing else pushed: mov r11,sp, of 16 bits (RULES 4.21)
+abbrev pub alone : Tables
+alone = record { word = 0x00BF0041; xdata = [] }
+
+pub alone-4 : (e : State) → Entered e → Reaches (inputs alone) e 4 Prologue (pop11lr ∷ [])
+unfolding opened
+alone-4 e h = in-prologue alone e h (up2 ∷ nop1 ∷ []) (pop11lr ∷ []) refl refl (tt, tt) (omega arith)
+
+pub alone-6 : (e : State) → Entered e → Reaches (inputs alone) e 6 Prologue (nop1 ∷ pop11lr ∷ [])
+unfolding opened
+alone-6 e h = in-prologue alone e h (up2 ∷ []) (nop1 ∷ pop11lr ∷ []) refl refl (tt, (tt, tt)) (omega arith)
+
+pub alone-8 : (e : State) → Entered e → Reaches (inputs alone) e 0x8 Body (up2 ∷ nop1 ∷ pop11lr ∷ [])
+unfolding opened
+alone-8 e h = in-body alone e h 0x8 refl (inl (omega arith), tt) (tt, (tt, (tt, tt))) (omega arith)
+
+pub alone-1C : (e : State) → Entered e → Reaches (inputs alone) e 0x1C Epilogue (pop11lr ∷ [])
+unfolding opened
+alone-1C e h = in-epilogue alone e h (up2 ∷ []) (pop11lr ∷ []) refl here (packed (λ q. omega arith) (λ d. refl)) refl refl (tt, (tt, (tt, tt))) (omega arith)
 
 -- ---- no L: LR is not saved, and bx lr ends the epilogue
 abbrev pub leaf : Tables

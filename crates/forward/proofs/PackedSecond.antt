@@ -18,7 +18,7 @@ use Rattle.codes.specs.declared.Code.{Code}
 use Rattle.codes.specs.declared.Undo.{Undo}
 use Rattle.codes.specs.declared.Undo.the-variants.{Up, Pop, Vpop, LoadLr, Nothing}
 use Rattle.packed.specs.Packed.{Fit, allowed, folded, amount, PF, EF, integers}
-use Rattle.packed_codes.specs.PackedCodes.{low}
+use Rattle.packed_codes.specs.PackedCodes.{low, pushed, chainAlone}
 use Rattle.packed.specs.declared.Packed.{Packed}
 use Rattle.packed_codes.specs.Lists.{only, sizeIf, ups, vpops, pops, nops, homes, prologueCodes, leaving, leaves, epilogueCodes}
 use Rattle.packed_codes.proofs.Decoding.{prologue-is}
@@ -56,11 +56,11 @@ flat-homes p = go (eqb (p .h) 1)
     go false = refl
 
 flat-nops : (p : Packed) → flat (nops p) ≡ []
-flat-nops p = go (eqb (p .c) 1)
+flat-nops p = go (eqb (p .c) 1) (sizeIf (chainAlone (pushed p)))
   where
-    go : (t : Bool) → flat (only t Nothing bits32) ≡ []
-    go true = refl
-    go false = refl
+    go : (t : Bool) (n : Halfwords) → flat (only t Nothing n) ≡ []
+    go true n = refl
+    go false n = refl
 
 -- ---- both lists' steps
 abbrev tail : Packed → List Op

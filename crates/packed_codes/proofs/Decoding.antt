@@ -14,23 +14,24 @@ use Rattle.words.specs.Units.{codeBytes, halfwords, halfwordBytes}
 use Rattle.words.specs.declared.Halfwords.{Halfwords}
 use Rattle.words.specs.declared.Refusal.the-variants.{BadCodes}
 use Rattle.words.proofs.Tests.{both}
-use Rattle.words.specs.Answer.{Res, ok, refuse, _>>=_}
+use Rattle.words.specs.Answer.{Res, ok, refuse, if_then_else_, _>>=_}
 use Rattle.unwinding.specs.CodeList.{Codes}
-use Rattle.codes.specs.Table.{rows, rowIn}
+use Rattle.codes.specs.Table.{rows, rowIn, bits32}
 use Rattle.unwinding.specs.Taking.{Scan, scanFrom}
 use Rattle.codes.specs.Code.{taking, bytesOf, codesAt}
 use Rattle.codes.specs.declared.Code.{Code}
 use Rattle.codes.specs.declared.Undo.{Undo}
-use Rattle.codes.specs.declared.Undo.the-variants.{Up}
+use Rattle.codes.specs.declared.Undo.the-variants.{Up, Nothing}
 use Rattle.unwinding.proofs.Scanning.{scan-at}
 use Rattle.codes.proofs.Scanning.{takes}
 use Rattle.packed.specs.Packed.{Fit, amount, PF, EF, integers}
-use Rattle.packed_codes.specs.PackedCodes.{when, upCode, vpopCode, popCode, low, firstList, leave, secondList, written}
+use Rattle.packed_codes.specs.PackedCodes.{when, upCode, vpopCode, popCode, low, pushed, chainAlone, firstList, leave, secondList, written}
 use Rattle.packed.specs.declared.Packed.{Packed}
 use Rattle.packed.proofs.IntegerLists.{integers-small}
 use Rattle.packed_codes.specs.Lists.{only, sizeIf, ups, vpops, pops, nops, homes, prologueCodes, leaving, epilogueCodes, Stands, Holds}
+use Rattle.packed_codes.specs.Chain.{firstBefore, writtenBefore, codesBefore}
 use Rattle.packed_codes.proofs.Buffer.{holding-bytes}
-use Rattle.packed_codes.proofs.Lengths.{lists-fit}
+use Rattle.packed_codes.proofs.Lengths.{lists-fit, before-fit}
 use Rattle.packed_codes.proofs.Pieces.{amount-small, leave-load, leave-return, leave-jump, second-none, second-some}
 use Rattle.packed_codes.proofs.Reading.{Reads, reads-none, reads-append, reads-when, ends, reads-up, reads-vpop, reads-nop, reads-home, reads-return, reads-pop}
 
@@ -70,6 +71,12 @@ ends-branch (suc (suc zero)) h n m =
 ends-branch (suc (suc (suc k))) h n m = absurd (m (omega arith))
 
 -- ---- the two lists
+-- the first list with this code as the nop, for C=1
+abbrev pub firstWith : Packed → (nop : ℕ) → List ℕ
+firstWith p n =
+    let l : ℕ = integers p (PF p) in
+    when (not (PF p)) (upCode (amount p)) ++ vpopCode p ++ when (eqb (p .c) 1) (n ∷ []) ++ popCode (low l) l (p .l) ++ when (eqb (p .h) 1) (0x04 ∷ []) ++ (0xFF ∷ [])
+
 -- the prologue's pieces, from the last to the first
 reverse-only : (t : Bool) (u : Undo) (n : Halfwords) → reverse (only t u n) ≡ only t u n
 reverse-only true u n = refl
@@ -82,14 +89,23 @@ backwards a b c d e p q r s t =
     rw (reverse-append (a ++ b ++ c ++ d) e, reverse-append (a ++ b ++ c) d, reverse-append (a ++ b) c, reverse-append a b, p, q, r, s, t)
     (simp append-assoc)
 
-pub prologue-is : (p : Packed) → prologueCodes p .list ≡ ups p (PF p) ++ vpops p ++ nops p ++ pops (low (integers p (PF p))) (integers p (PF p)) (p .l) ++ homes p
-prologue-is p =
+-- the prologue's list with a nop of this size, for C=1
+abbrev pub codesWith : Packed → (nop : Halfwords) → List Code
+codesWith p n = let l : ℕ = integers p (PF p) in ups p (PF p) ++ vpops p ++ only (eqb (p .c) 1) Nothing n ++ pops (low l) l (p .l) ++ homes p
+
+pub reversed :
+    (p : Packed) (n : Halfwords)
+    → reverse (homes p ++ pops (low (integers p (PF p))) (integers p (PF p)) (p .l) ++ only (eqb (p .c) 1) Nothing n ++ vpops p ++ ups p (PF p)) ≡ codesWith p n
+reversed p n =
     let l : ℕ = integers p (PF p) in
-    backwards (homes p) (pops (low l) l (p .l)) (nops p) (vpops p) (ups p (PF p)) (reverse-only (eqb (p .h) 1) _ _)
+    backwards (homes p) (pops (low l) l (p .l)) (only (eqb (p .c) 1) Nothing n) (vpops p) (ups p (PF p)) (reverse-only (eqb (p .h) 1) _ _)
     (reverse-only (not (eqb (l + p .l) 0)) _ _)
     (reverse-only (eqb (p .c) 1) _ _)
     (reverse-only (eqb (p .r) 1 && not (eqb (p .reg) 7)) _ _)
     (reverse-only (not (PF p) && not (eqb (amount p .0) 0)) _ _)
+
+pub prologue-is : (p : Packed) → prologueCodes p .list ≡ ups p (PF p) ++ vpops p ++ nops p ++ pops (low (integers p (PF p))) (integers p (PF p)) (p .l) ++ homes p
+prologue-is p = reversed p (sizeIf (chainAlone (pushed p)))
 
 module _ (p : Packed) (w : Fit p) where
   reads-ups : (f : Bool) → Reads (when (not f) (upCode (amount p))) (ups p f)
@@ -108,17 +124,24 @@ module _ (p : Packed) (w : Fit p) where
   reads-pops : (t f : Bool) (b : ℕ) → b < 2 → (t ≡ true → low (integers p f) ≡ true) → Reads (popCode t (integers p f) b) (pops t (integers p f) b)
   reads-pops t f b h q = reads-pop t (integers p f) b (λ e. ltb-true (integers p f) 256 (q e)) (integers-small p f w) h
 
-  first-ended : Ended (firstList p) (prologueCodes p)
-  unfolding firstList
-  first-ended =
-      subst (λ l. Ended (firstList p) (record { list = l; endSize = 0 })) (sym (prologue-is p))
-      (ended-last
+  -- the first list with a nop of either size
+  with-ended : (narrow : Bool) → Ended (firstWith p (if narrow then 0xFB else 0xFC)) (record { list = codesWith p (sizeIf narrow); endSize = 0 })
+  with-ended t =
+      ended-last
       (reads-append
       (reads-append
-      (reads-append (reads-append (reads-ups (PF p)) reads-vpops) (reads-when (eqb (p .c) 1) reads-nop))
+      (reads-append (reads-append (reads-ups (PF p)) reads-vpops) (reads-when (eqb (p .c) 1) (reads-nop t)))
       (reads-pops (low (integers p (PF p))) (PF p) (p .l) (w .l) (λ e. e)))
       reads-homes)
-      ends-FF)
+      ends-FF
+
+  first-ended : Ended (firstList p) (prologueCodes p)
+  unfolding firstList
+  first-ended = subst (λ l. Ended (firstList p) (record { list = l; endSize = 0 })) (sym (prologue-is p)) (with-ended (chainAlone (pushed p)))
+
+  before-ended : Ended (firstBefore p) (codesBefore p)
+  unfolding firstBefore
+  before-ended = subst (λ l. Ended (firstBefore p) (record { list = l; endSize = 0 })) (sym (reversed p bits32)) (with-ended false)
 
   leave-ended : (f : Bool) → p .ret ≢ 3 → Ended (leave p (integers p f)) (leaving (eqb (p .h) 1 && eqb (p .l) 1) (eqb (p .ret) 0) p (integers p f))
   leave-ended f n = go (eqb (p .h) 1 && eqb (p .l) 1) refl (eqb (p .ret) 0) refl
@@ -182,29 +205,58 @@ module _ (k bs : List ℕ) (c : Codes Code) (e : Ended bs c) where
       }
 
 -- ---- in the 16 bytes
-module _ (p : Packed) (w : Fit p) where
+-- the epilogue's list behind any first one with which it fits
+module _ (p : Packed) (w : Fit p) (l : List ℕ) (c : Codes Code) (ended : Ended l c) (fit : length l + length (secondList p) ≤ 16) where
+  abbrev bytes : List ℕ
+  bytes = take 16 (l ++ secondList p ++ replicate 16 0)
+
   abbrev zeros : List ℕ
-  zeros = replicate (16 - length (firstList p ++ secondList p)) 0
+  zeros = replicate (16 - length (l ++ secondList p)) 0
 
-  long : length (firstList p ++ secondList p) ≡ length (firstList p) + length (secondList p)
-  long = length-append (firstList p) (secondList p)
+  long : length (l ++ secondList p) ≡ length l + length (secondList p)
+  long = length-append l (secondList p)
 
-  bytes-are : written p .bytes ≡ firstList p ++ secondList p ++ zeros
-  bytes-are = holding-bytes (firstList p ++ secondList p) (omega (arith, long, lists-fit p))
+  bytes-are : bytes ≡ l ++ secondList p ++ zeros
+  bytes-are = holding-bytes (l ++ secondList p) (omega (arith, long, fit))
 
-  in-turn : firstList p ++ (secondList p ++ zeros) ≡ written p .bytes
-  in-turn = sym (bytes-are ∙ append-assoc (firstList p) (secondList p) zeros)
+  in-turn : l ++ (secondList p ++ zeros) ≡ bytes
+  in-turn = sym (bytes-are ∙ append-assoc l (secondList p) zeros)
 
+  first-stands : Stands bytes (codeBytes 0) (codeBytes (length l)) c
+  first-stands = subst (λ s. Stands s (codeBytes 0) (codeBytes (length l)) c) in-turn (stands [] l c ended (secondList p ++ zeros))
+
+  second-stands : p .ret ≢ 3 → Stands bytes (codeBytes (length l)) (codeBytes (length (secondList p))) (epilogueCodes p)
+  second-stands n =
+      subst (λ s. Stands s (codeBytes (length l)) (codeBytes (length (secondList p))) (epilogueCodes p)) in-turn
+      (stands l (secondList p) (epilogueCodes p) (second-ended p w n) zeros)
+
+  rest-are : drop (length l + length (secondList p)) bytes ≡ replicate (16 - (length l + length (secondList p))) 0
+  rest-are = ap₂ drop (sym long) bytes-are ∙ drop-append-seam (l ++ secondList p) zeros ∙ ap (λ n. replicate (16 - n) 0) long
+
+  all-are : length bytes ≡ 16
+  all-are =
+      let a : length bytes ≡ length (l ++ secondList p) + (16 - length (l ++ secondList p)) = ap length bytes-are ∙ length-append (l ++ secondList p) zeros ∙ ap (λ n. length (l ++ secondList p) + n) (length-replicate (16 - length (l ++ secondList p)) 0) in
+      let b : length (l ++ secondList p) ≤ 16 = omega (arith, long, fit) in
+      omega (arith, a, b)
+
+module _ (p : Packed) (w : Fit p) where
   pub holds : Holds p (written p)
-  holds = record {
-    first = subst (λ s. Stands s (codeBytes 0) (written p .first) (prologueCodes p)) in-turn
-        (stands [] (firstList p) (prologueCodes p) (first-ended p w) (secondList p ++ zeros));
-    second = λ n. subst (λ s. Stands s (written p .first) (written p .second) (epilogueCodes p)) in-turn
-        (stands (firstList p) (secondList p) (epilogueCodes p) (second-ended p w n) zeros);
-    none = λ e. ap (λ l. codeBytes (length l)) (second-none p e);
-    rest = ap₂ drop (sym long) bytes-are ∙ drop-append-seam (firstList p ++ secondList p) zeros ∙ ap (λ n. replicate (16 - n) 0) long;
-    all =
-        let a : length (written p .bytes) ≡ length (firstList p ++ secondList p) + (16 - length (firstList p ++ secondList p)) = ap length bytes-are ∙ length-append (firstList p ++ secondList p) zeros ∙ ap (λ n. length (firstList p ++ secondList p) + n) (length-replicate (16 - length (firstList p ++ secondList p)) 0) in
-        let b : length (firstList p ++ secondList p) ≤ 16 = omega (arith, long, lists-fit p) in
-        omega (arith, a, b);
-  }
+  holds =
+      let l : List ℕ = firstList p in
+      let c : Codes Code = prologueCodes p in
+      let e = first-ended p w in
+      let f = lists-fit p in
+      record {
+        first = first-stands p w l c e f;
+        second = second-stands p w l c e f;
+        none = λ e. ap (λ l. codeBytes (length l)) (second-none p e);
+        rest = rest-are p w l c e f;
+        all = all-are p w l c e f;
+      }
+
+  -- the bytes as they were before order 4
+  pub before-first : Stands (writtenBefore p .bytes) (codeBytes 0) (writtenBefore p .first) (codesBefore p)
+  before-first = first-stands p w (firstBefore p) (codesBefore p) (before-ended p w) (before-fit p)
+
+  pub before-second : p .ret ≢ 3 → Stands (writtenBefore p .bytes) (writtenBefore p .first) (writtenBefore p .second) (epilogueCodes p)
+  before-second = second-stands p w (firstBefore p) (codesBefore p) (before-ended p w) (before-fit p)

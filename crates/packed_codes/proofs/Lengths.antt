@@ -10,7 +10,8 @@ use native.Mathlib.Omega.{arith}
 use Rattle.words.specs.declared.StackWords.{StackWords}
 use Rattle.words.specs.Answer.{if_then_else_}
 use Rattle.packed.specs.Packed.{amount, PF, EF, integers}
-use Rattle.packed_codes.specs.PackedCodes.{when, upCode, vpopCode, upTo, dForm, popCode, low, firstList, leave, secondList}
+use Rattle.packed_codes.specs.PackedCodes.{when, upCode, vpopCode, upTo, dForm, popCode, low, pushed, chainCode, firstList, leave, secondList}
+use Rattle.packed_codes.specs.Chain.{firstBefore}
 use Rattle.packed.specs.declared.Packed.{Packed}
 
 -- at most n bytes
@@ -51,14 +52,22 @@ pop-short : (narrow : Bool) (l b : ℕ) → Short (popCode narrow l b) 2
 pop-short true l b = when-short (not (eqb (l + b) 0)) (d-short (upTo 4 4 l) 0xD0 b two)
 pop-short false l b = when-short (not (eqb (l + b) 0)) (d-short (upTo 4 8 l) 0xD8 b two)
 
-first-most : (p : Packed) → Short (firstList p) 8
-unfolding firstList
-first-most p =
+-- with any byte for the nop
+with-most : (p : Packed) (nop : ℕ) → Short (when (not (PF p)) (upCode (amount p)) ++ vpopCode p ++ when (eqb (p .c) 1) (nop ∷ []) ++ popCode (low (integers p (PF p))) (integers p (PF p)) (p .l) ++ when (eqb (p .h) 1) (0x04 ∷ []) ++ (0xFF ∷ [])) 8
+with-most p n =
     let l : ℕ = integers p (PF p) in
     let sub = when-short (not (PF p)) (up-short (amount p)) in
-    let nop = when-short (eqb (p .c) 1) {l = 0xFC ∷ []} one in
+    let nop = when-short (eqb (p .c) 1) {l = n ∷ []} one in
     let home = when-short (eqb (p .h) 1) {l = 0x04 ∷ []} one in
     join (join (join (join (join sub (vpop-short p)) nop) (pop-short (low l) l (p .l))) home) (one {a = 0xFF})
+
+first-most : (p : Packed) → Short (firstList p) 8
+unfolding firstList
+first-most p = with-most p (chainCode (pushed p))
+
+before-most : (p : Packed) → Short (firstBefore p) 8
+unfolding firstBefore
+before-most p = with-most p 0xFC
 
 leave-short : (p : Packed) (l : ℕ) → Short (leave p l) 5
 leave-short p l =
@@ -76,3 +85,6 @@ second-most p =
 
 pub lists-fit : (p : Packed) → length (firstList p) + length (secondList p) ≤ 16
 lists-fit p = omega (arith, first-most p .most, second-most p .most)
+
+pub before-fit : (p : Packed) → length (firstBefore p) + length (secondList p) ≤ 16
+before-fit p = omega (arith, before-most p .most, second-most p .most)

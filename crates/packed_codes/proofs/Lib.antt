@@ -4,3 +4,4 @@ pub mod Lengths
 pub mod Written
 pub mod Reading
 pub mod Decoding
+pub mod Chain

@@ -137,9 +137,10 @@ reads-vpop x h =
     reads-one (0xE0 + x) _ (Vpop 8 (8 + x)) (vpop-row (0xE0 + x) (omega arith) (omega arith)) refl
     (ap (λ i. Does (Vpop 8 (8 + i))) (let z : bits 0 3 (256 * 0 + (0xE0 + x)) ≡ x = omega arith in z))
 
-pub reads-nop : Reads (0xFC ∷ []) (only true Nothing bits32)
+pub reads-nop : (narrow : Bool) → Reads ((if narrow then 0xFB else 0xFC) ∷ []) (only true Nothing (sizeIf narrow))
 unfolding rows rowIn
-reads-nop = reads-one 0xFC (rowOf 0xFC) Nothing refl refl refl
+reads-nop true = reads-one 0xFB (rowOf 0xFB) Nothing refl refl refl
+reads-nop false = reads-one 0xFC (rowOf 0xFC) Nothing refl refl refl
 
 pub reads-home : Reads (0x04 ∷ []) (only true (Up (stackWords 4)) bits16)
 unfolding rows rowIn

@@ -18,7 +18,7 @@ use Rattle.codes.specs.declared.Code.{Code}
 use Rattle.codes.specs.declared.Undo.{Undo}
 use Rattle.codes.specs.declared.Undo.the-variants.{Up, Pop, Vpop, LoadLr, Nothing}
 use Rattle.packed.specs.Packed.{amount, PF, EF, integers}
-use Rattle.packed_codes.specs.PackedCodes.{low}
+use Rattle.packed_codes.specs.PackedCodes.{low, pushed, chainAlone}
 use Rattle.packed.specs.declared.Packed.{Packed}
 use Rattle.packed_codes.specs.declared.CodesOf.{CodesOf}
 
@@ -41,9 +41,9 @@ vpops p = only (eqb (p .r) 1 && not (eqb (p .reg) 7)) (Vpop 8 (8 + p .reg)) bits
 abbrev pub pops : (narrow : Bool) → (list lr : ℕ) → List Code
 pops narrow l b = only (not (eqb (l + b) 0)) (Pop (l + lrIf b)) (sizeIf narrow)
 
--- what sets r11, if C=1: its code is a nop (RULES 4.6)
+-- what sets r11, if C=1: its code is a nop, of 16 bits where only r11 and LR are pushed (RULES 4.6)
 abbrev pub nops : Packed → List Code
-nops p = only (eqb (p .c) 1) Nothing bits32
+nops p = only (eqb (p .c) 1) Nothing (sizeIf (chainAlone (pushed p)))
 
 -- if H=1, push {r0-r3} (RULES 4.6), or an add of their four words (RULES 4.10)
 abbrev pub homes : Packed → List Code

@@ -1,5 +1,5 @@
 -- The code bytes that a packed word stands for: the prologue's codes in reverse, then the epilogue's in its order (RULES 4.16).
-use Prim.Native.Nat.{ℕ, zero, suc, _+_, _*_, _/_, _%_}
+use Prim.Native.Nat.{ℕ, zero, suc, _+_, _*_, _/_, _%_, _^_}
 use mathlib.Core.List.{List, _∷_, _++_, []}
 use mathlib.Core.Bool.{Bool, true, false, _&&_, not}
 use mathlib.Core.Option.{Option, none, some}
@@ -9,7 +9,7 @@ use Rattle.words.specs.declared.StackWords.{StackWords}
 use Rattle.words.specs.declared.Refusal.the-variants.{Reserved}
 use Rattle.words.specs.Units.{codeBytes}
 use Rattle.words.specs.Answer.{Res, ok, refuse, need, if_then_else_, _>>=_, _>>_}
-use Rattle.codes.specs.Table.{range}
+use Rattle.codes.specs.Table.{range, lrIf}
 use Rattle.words.specs.declared.Verdict.the-variants.{Given, Refused}
 use Rattle.packed.specs.Packed.{fields, allowed, integers, amount, PF, EF}
 use Rattle.packed.specs.declared.Packed.{Packed}
@@ -47,11 +47,23 @@ popCode w l b = when (not (eqb (l + b) 0)) (popSized w l b)
 abbrev pub low : ℕ → Bool
 low l = ltb l 256
 
+-- what the prologue pushes: its integer list, LR in it, as a list of registers (RULES 4.3)
+abbrev pub pushed : Packed → ℕ
+pushed p = integers p (PF p) + lrIf (p .l)
+
+-- r11 and LR, and nothing else
+abbrev pub chainAlone : (list : ℕ) → Bool
+chainAlone l = eqb l (2 ^ 11 + 2 ^ 14)
+
+-- the nop of what sets r11, by the list that is pushed (RULES 4.6)
+abbrev pub chainCode : (list : ℕ) → ℕ
+chainCode l = if chainAlone l then 0xFB else 0xFC
+
 -- the first list: the codes of RULES 4.6, the last step's first, and FF
 unfoldable pub firstList : Packed → List ℕ
 firstList p =
     let l : ℕ = integers p (PF p) in
-    when (not (PF p)) (upCode (amount p)) ++ vpopCode p ++ when (eqb (p .c) 1) (0xFC ∷ []) ++ popCode (low l) l (p .l)
+    when (not (PF p)) (upCode (amount p)) ++ vpopCode p ++ when (eqb (p .c) 1) (chainCode (pushed p) ∷ []) ++ popCode (low l) l (p .l)
     ++ when (eqb (p .h) 1) (0x04 ∷ [])
     ++ (0xFF ∷ [])
 

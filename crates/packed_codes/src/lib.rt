@@ -21,7 +21,7 @@ ghost use lib.Dec.{eqb};
 ghost use Rattle.words.specs.Bits.{bits as bitsOf};
 ghost use Rattle.codes.specs.Table.{lrIf};
 ghost use Rattle.packed.specs.Packed.{Fit, fields as fieldsOf, amount as amountOf};
-ghost use Rattle.packed_codes.specs.PackedCodes.{when, upCode, vpopCode, upTo, popSized, popCode, low, firstList, leave as leaveOf, secondList, written, writeCodes, codesAnswer};
+ghost use Rattle.packed_codes.specs.PackedCodes.{when, upCode, vpopCode, upTo, popSized, popCode, low, chainCode, firstList, leave as leaveOf, secondList, written, writeCodes, codesAnswer};
 ghost use Rattle.packed_codes.specs.as_coded.Out.{puts, topOf};
 
 // A packed record's code bytes and how long its two lists are (RULES 4.19); all 0 where it is refused.
@@ -158,6 +158,16 @@ fn pop(out: &mut [u8; 16], at: usize, list: u32, narrow: bool) -> usize
     pop32(out, at, bits(list, 0, 13), bits(list, 14, 1))
 }
 
+// The nop of what sets r11, by the list that is pushed: of 16 bits for r11 and LR and nothing else (RULES 4.6).
+fn chain_code(list: u32) -> u8
+    ensures { λ r. ⌜ r ≡ chainCode list ⌝ }
+{
+    if list == 0x4800 {
+        return 0xFB;
+    }
+    0xFC
+}
+
 // The first list: the prologue's codes in reverse, and FF (RULES 4.16).
 fn first_list(out: &mut [u8; 16], at: usize, word: u32) -> usize
     ensures { λ r. ⌜ (now (out .exit), r) ≡ puts (now (out .entry), at) (firstList (fieldsOf word)) ⌝ }
@@ -166,8 +176,9 @@ fn first_list(out: &mut [u8; 16], at: usize, word: u32) -> usize
     let fold = pf(p);
     let at = adjust(out, at, p, fold);
     let at = vpop(out, at, p);
-    let at = put_if(out, at, p.c, 0xFC);
-    let at = pop(out, at, registers(word, fold), true);
+    let list = registers(word, fold);
+    let at = put_if(out, at, p.c, chain_code(list));
+    let at = pop(out, at, list, true);
     let at = put_if(out, at, p.h, 0x04);
     put(out, at, 0xFF)
 }

@@ -19,3 +19,4 @@ pub mod TwoWalks
 pub mod Singly
 pub mod OneWalk
 pub mod Mapping
+pub mod Resized

@@ -23,7 +23,7 @@ use Rattle.words.proofs.Tests.{both}
 
 -- ---- stretches that are apart
 -- two that are apart hold no offset together
-apart-not : (a b : Stretch) (o : ℕ) → not (shared a b) ≡ true → a .from ≤ o → o < a .to → b .from ≤ o → o < b .to → ⊥
+pub apart-not : (a b : Stretch) (o : ℕ) → not (shared a b) ≡ true → a .from ≤ o → o < a .to → b .from ≤ o → o < b .to → ⊥
 apart-not a b o h p q r s =
     let m : max (a .from) (b .from) < min (a .to) (b .to) = omega arith in
     let z : not (shared a b) ≡ false = rw (lt-ltb _ _ m) refl in
@@ -37,11 +37,11 @@ apart-of {ex} a (here {exs = exs}) h = both (not (shared a (stretch ex))) (apart
 apart-of a (later {b = b} {exs = exs} m) h = apart-of a m (both (not (shared a (stretch b))) (apart a (map stretch exs)) h .1)
 
 -- the prologue and the epilogues are apart
-record Apart {C : Type 0} (v : View C) : Type 0 where
-  prologue : apart (record { from = 0; to = v .prologue }) (map stretch (v .epilogues)) ≡ true
-  epilogues : allApart (map stretch (v .epilogues)) ≡ true
+pub record Apart {C : Type 0} (v : View C) : Type 0 where
+  pub prologue : apart (record { from = 0; to = v .prologue }) (map stretch (v .epilogues)) ≡ true
+  pub epilogues : allApart (map stretch (v .epilogues)) ≡ true
 
-all-apart : {C : Type 0} (span : ℕ) (v : View C) → fits span (v .prologue) (v .epilogues) ≡ true → Apart v
+pub all-apart : {C : Type 0} (span : ℕ) (v : View C) → fits span (v .prologue) (v .epilogues) ≡ true → Apart v
 all-apart span v h =
     let all : List Stretch = record { from = 0; to = v .prologue } ∷ map stretch (v .epilogues) in
     let a = both (inside span all && ascending (map (λ e. e .start) (v .epilogues))) (allApart all) h in

@@ -16,13 +16,14 @@ use Rattle.unwinding.specs.Listed.{Of, here, later}
 use Rattle.words.proofs.Answers.{bind-ok, need-ok}
 
 module _ {C : Type 0} (size : C → ℕ) (read : List ℕ → CodeBytes → Res (Codes C)) where
-  pub record Viewed (s : Shape) (v : View C) : Type 0 where
-    pub codes : read (s .codes) (codeBytes 0) ≡ ok (v .codes)
-    pub epilogues : epilogues size read s (s .scopes) ≡ ok (v .epilogues)
-    pub fit : fits (s .span) (v .prologue) (v .epilogues) ≡ true
-
   abbrev prologueOf : Shape → Codes C → ℕ
   prologueOf s c = if s .fragment then 0 else total size (c .list)
+
+  pub record Viewed (s : Shape) (v : View C) : Type 0 where
+    pub codes : read (s .codes) (codeBytes 0) ≡ ok (v .codes)
+    pub prologue : v .prologue ≡ prologueOf s (v .codes)
+    pub epilogues : epilogues size read s (s .scopes) ≡ ok (v .epilogues)
+    pub fit : fits (s .span) (v .prologue) (v .epilogues) ≡ true
 
   abbrev viewOf : Shape → Codes C → List (EpilogueOf C) → View C
   viewOf s c es = record { codes = c; prologue = prologueOf s c; epilogues = es }
@@ -36,6 +37,7 @@ module _ {C : Type 0} (size : C → ℕ) (read : List ℕ → CodeBytes → Res 
       let e : viewOf s (a .0) (b .0) ≡ v = cc in
       record {
         codes = a .1 ∙ ap (λ (x : View C). ok (x .codes)) e;
+        prologue = sym (ap (λ (x : View C). x .prologue) e) ∙ ap (λ (x : View C). prologueOf s (x .codes)) e;
         epilogues = b .1 ∙ ap (λ (x : View C). ok (x .epilogues)) e;
         fit = ap (λ (x : View C). fits (s .span) (x .prologue) (x .epilogues)) (sym e) ∙ c .0;
       }

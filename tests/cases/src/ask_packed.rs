@@ -84,11 +84,11 @@ pub fn every_combination() -> impl Iterator<Item = Request> {
 }
 
 /// Words with the code bytes that document 01 gives, or that its rules were followed to by hand.
-pub fn examples() -> Vec<Request> {
-    let example = |word, known: &str| Request {
-        known: Some(known.to_string()),
-        ..codes_of("any word", word)
-    };
+pub fn examples() -> impl Iterator<Item = Request> {
+    plain_examples().into_iter().chain(chain_examples())
+}
+
+fn plain_examples() -> Vec<Request> {
     let plain = PackedFields::CALLING;
     vec![
         example(0x0091_0041, "codes 0 3 3 02d5ff02d5ff00000000000000000000"),
@@ -112,13 +112,44 @@ pub fn examples() -> Vec<Request> {
             PackedFields { ret: 1, r: false, reg: 3, ..plain }.word(),
             "codes 0 2 3 d7ffa0f0fd0000000000000000000000",
         ),
-        // r4-r10 with r11 of the frame chain is r4-r11.
-        example(
-            PackedFields { r: false, reg: 6, c: true, ..plain }.word(),
-            "codes 0 3 2 fcdfffdfff0000000000000000000000",
-        ),
         example(0, "codes 4 0 0 00000000000000000000000000000000"),
     ]
+}
+
+/// Words with C=1, with r11 and LR alone in the prologue's list or not.
+fn chain_examples() -> Vec<Request> {
+    let plain = PackedFields { c: true, ..PackedFields::CALLING };
+    vec![
+        // push.w {r11,lr} and mov r11,sp.
+        example(
+            PackedFields { length: 32, ..plain }.word(),
+            "codes 0 4 3 fba800ffa800ff000000000000000000",
+        ),
+        // The same between push {r0-r3} and vpush {d8,d9}.
+        example(
+            PackedFields { h: true, reg: 1, stack_adjust: 2, ..plain }.word(),
+            "codes 0 7 7 02e1fba80004ff02e18800ef05ff0000",
+        ),
+        // push.w {r3,r11,lr} and add.w r11,sp,#4; one word is given back by an add.
+        example(
+            PackedFields { stack_adjust: 0x3f4, ..plain }.word(),
+            "codes 0 4 4 fca808ff01a800ff0000000000000000",
+        ),
+        // The word is given back by the pop alone, as r3.
+        example(
+            PackedFields { stack_adjust: 0x3f8, ..plain }.word(),
+            "codes 0 5 3 01fba800ffa808ff0000000000000000",
+        ),
+        // r4-r10 with r11 of the frame chain is r4-r11.
+        example(
+            PackedFields { r: false, reg: 6, ..plain }.word(),
+            "codes 0 3 2 fcdfffdfff0000000000000000000000",
+        ),
+    ]
+}
+
+fn example(word: u32, known: &str) -> Request {
+    Request { known: Some(known.to_string()), ..codes_of("any word", word) }
 }
 
 fn codes_of(kind: &'static str, word: u32) -> Request {

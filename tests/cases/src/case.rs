@@ -6,6 +6,8 @@ pub struct Case {
     pub kind: &'static str,
     pub report: Vec<u8>,
     pub known: Known,
+    /// What it aims at within its kind, for the histogram.
+    pub aims: Vec<String>,
 }
 
 #[derive(Clone, Debug)]
@@ -32,6 +34,9 @@ pub enum Known {
 pub struct Chain {
     /// pc and SP of each frame, the innermost first.
     pub frames: Vec<(u32, u32)>,
+    /// Where the innermost stopped, and how many instructions bring its caller back.
+    pub place: &'static str,
+    pub codes: usize,
     pub sp: u32,
     pub pc: u32,
     /// r4-r11.
@@ -42,6 +47,10 @@ pub struct Chain {
 
 impl Case {
     pub fn open(kind: &'static str, report: Vec<u8>) -> Case {
-        Case { kind, report, known: Known::Nothing }
+        Case::new(kind, report, Known::Nothing)
+    }
+
+    pub fn new(kind: &'static str, report: Vec<u8>, known: Known) -> Case {
+        Case { kind, report, known, aims: Vec::new() }
     }
 }

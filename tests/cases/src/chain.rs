@@ -16,28 +16,45 @@ const STACK_BASE: u32 = 0x0020_0000;
 const STACK_WORDS: u32 = 8_192;
 const DEEPEST: usize = 12;
 
+/// Where the innermost function stopped.
+pub struct Stand {
+    /// Bytes from the function's start.
+    pub offset: u32,
+    pub place: &'static str,
+    /// Instructions to be undone.
+    pub codes: usize,
+}
+
 pub fn chain(rng: &mut Rng) -> Case {
-    let module = random_module(rng);
-    let above = rng.within(0..=6);
-    let mut processor = Processor::new(rng, STACK_BASE, STACK_WORDS, above);
-    // The outermost return address ends the walk, with or without the Thumb mark.
-    processor.r[LR] = rng.within(0..=1);
+    let functions: Vec<Function> = (0..rng.within(1..=5))
+        .map(|_| if rng.flag() { packed::in_chain(rng) } else { full::in_chain(rng) })
+        .collect();
+    let module = assemble(rng, functions);
+    let mut processor = new_thread(rng);
     let mut frames = Vec::new();
     for _ in 0..rng.below(DEEPEST) {
         frames.push(call(rng, &module, &mut processor));
     }
     let entry = processor.clone();
-    processor.r[PC] = stand_somewhere(rng, &module, &mut processor);
+    let number = rng.below(module.functions.len());
+    let stand = stand_somewhere(rng, &module.functions[number], &mut processor);
+    processor.r[PC] = module.address(number, stand.offset);
     frames.push((processor.r[PC], processor.r[SP]));
     frames.reverse();
-    let known = Known::Chain(Box::new(truth(&entry, frames)));
-    Case { kind: "chain", report: write(rng, &module, &processor), known }
+    let known = Known::Chain(Box::new(truth(&entry, frames, &stand)));
+    Case::new("chain", write(rng, &module, &processor), known)
 }
 
-fn random_module(rng: &mut Rng) -> Module {
-    let functions: Vec<Function> = (0..rng.within(1..=5))
-        .map(|_| if rng.flag() { packed::in_chain(rng) } else { full::in_chain(rng) })
-        .collect();
+/// A processor before the first call.
+pub fn new_thread(rng: &mut Rng) -> Processor {
+    let above = rng.within(0..=6);
+    let mut processor = Processor::new(rng, STACK_BASE, STACK_WORDS, above);
+    // The outermost return address ends the walk, with or without the Thumb mark.
+    processor.r[LR] = rng.within(0..=1);
+    processor
+}
+
+pub fn assemble(rng: &mut Rng, functions: Vec<Function>) -> Module {
     loop {
         let module = Module::assemble(rng, functions.clone());
         // A chain needs real addresses: not those that wrap, nor odd ones of an odd image base.
@@ -58,15 +75,20 @@ fn forwards(list: &List) -> Vec<Effect> {
 fn call(rng: &mut Rng, module: &Module, processor: &mut Processor) -> (u32, u32) {
     let number = rng.below(module.functions.len());
     let function = &module.functions[number];
-    let prologue = forwards(&function.body);
-    prologue.iter().for_each(|effect| processor.execute(*effect));
-    processor.run_body(rng, &prologue);
+    enter_body(rng, function, processor);
     let return_address = module.address(number, offset_after_prologue(rng, function));
     processor.r[LR] = return_address | u32::from(rng.percent(90));
     (return_address, processor.r[SP])
 }
 
-fn offset_after_prologue(rng: &mut Rng, function: &Function) -> u32 {
+/// The whole prologue, and whatever a body may do after it.
+pub fn enter_body(rng: &mut Rng, function: &Function, processor: &mut Processor) {
+    let prologue = forwards(&function.body);
+    prologue.iter().for_each(|effect| processor.execute(*effect));
+    processor.run_body(rng, &prologue);
+}
+
+pub fn offset_after_prologue(rng: &mut Rng, function: &Function) -> u32 {
     loop {
         let offset = function.offset_in_body(rng);
         if function.is_body(offset) {
@@ -75,39 +97,35 @@ fn offset_after_prologue(rng: &mut Rng, function: &Function) -> u32 {
     }
 }
 
-/// The innermost function stops in its prologue, its body or an epilogue. Gives the pc.
-fn stand_somewhere(rng: &mut Rng, module: &Module, processor: &mut Processor) -> u32 {
-    let number = rng.below(module.functions.len());
-    let function = &module.functions[number];
-    let prologue = forwards(&function.body);
-    let offset = match rng.within(0..=2) {
+/// The innermost function stops in its prologue, its body or an epilogue.
+fn stand_somewhere(rng: &mut Rng, function: &Function, processor: &mut Processor) -> Stand {
+    match rng.within(0..=2) {
         0 => stop_in_prologue(rng, function, processor),
         1 if !function.epilogues.is_empty() => {
-            prologue.iter().for_each(|effect| processor.execute(*effect));
-            processor.run_body(rng, &prologue);
+            enter_body(rng, function, processor);
             stop_in_epilogue(rng, function, processor)
         }
         _ => {
-            prologue.iter().for_each(|effect| processor.execute(*effect));
-            processor.run_body(rng, &prologue);
-            offset_after_prologue(rng, function)
+            enter_body(rng, function, processor);
+            let offset = offset_after_prologue(rng, function);
+            Stand { offset, place: "body", codes: function.body.steps.len() }
         }
-    };
-    module.address(number, offset)
+    }
 }
 
-fn stop_in_prologue(rng: &mut Rng, function: &Function, processor: &mut Processor) -> u32 {
+fn stop_in_prologue(rng: &mut Rng, function: &Function, processor: &mut Processor) -> Stand {
     let done = rng.below(function.body.steps.len());
     let steps = function.body.steps.iter().rev().take(done);
-    steps
+    let offset = steps
         .map(|step| {
             processor.execute(step.effect);
             step.size
         })
-        .sum()
+        .sum();
+    Stand { offset, place: "prologue", codes: done }
 }
 
-fn stop_in_epilogue(rng: &mut Rng, function: &Function, processor: &mut Processor) -> u32 {
+fn stop_in_epilogue(rng: &mut Rng, function: &Function, processor: &mut Processor) -> Stand {
     let epilogue = &function.epilogues[rng.below(function.epilogues.len())];
     let list = &epilogue.list;
     // The last instruction leaves the function: after it the pc is elsewhere.
@@ -120,17 +138,20 @@ fn stop_in_epilogue(rng: &mut Rng, function: &Function, processor: &mut Processo
             step.size
         })
         .sum();
-    epilogue.start + distance
+    let offset = epilogue.start + distance;
+    Stand { offset, place: "epilogue", codes: list.steps.len() - done }
 }
 
-fn truth(entry: &Processor, frames: Vec<(u32, u32)>) -> Chain {
-    let mut chain = Chain { frames, sp: entry.r[SP], pc: entry.r[LR] & !1, r: [0; 8], d: [0; 8] };
+pub fn truth(entry: &Processor, frames: Vec<(u32, u32)>, stand: &Stand) -> Chain {
+    let &Stand { place, codes, .. } = stand;
+    let (sp, pc) = (entry.r[SP], entry.r[LR] & !1);
+    let mut chain = Chain { frames, place, codes, sp, pc, r: [0; 8], d: [0; 8] };
     chain.r.copy_from_slice(&entry.r[4..12]);
     chain.d.copy_from_slice(&entry.d[8..16]);
     chain
 }
 
-fn write(rng: &mut Rng, module: &Module, processor: &Processor) -> Vec<u8> {
+pub fn write(rng: &mut Rng, module: &Module, processor: &Processor) -> Vec<u8> {
     let (stack_base, stack) = processor.stack(rng.within(0..=5));
     let mut draft = Draft { stack_base, r: processor.r, d: processor.d, ..module.draft.clone() };
     draft.set_stack(stack);

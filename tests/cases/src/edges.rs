@@ -80,7 +80,7 @@ pub fn undefined_code(rng: &mut Rng) -> Case {
     // Very many epilogues over a very large stack are too long.
     let reached = module.reaches(1, offset) && report.len() <= LONGEST;
     let known = if reached { Known::FirstRefused(6) } else { Known::Nothing };
-    Case { kind, report, known }
+    Case::new(kind, report, known)
 }
 
 /// A code that is defined nowhere, and the name of its kind.

@@ -1,5 +1,6 @@
-//! The examples of document 01 and of Microsoft's page, with answers that no unwinder was asked for: a
-//! processor executes the printed instructions and the state at the function's entry is the caller.
+//! The examples of document 01 and of Microsoft's page, and some that set r11, with answers that no unwinder
+//! was asked for: a processor executes the printed instructions and the state at the function's entry is
+//! the caller.
 //!
 //! Where the page errs, document 01's size or field is taken: the 16-bit `pop {r4-r6}` of example 3,
 //! the length 0x207 of example 5, R=1 of example 7.
@@ -13,7 +14,7 @@ use crate::records::{FullRecord, PackedFields, Scope, Scopes};
 use crate::region_examples;
 use crate::rng::Rng;
 use crate::steps::registers;
-use crate::steps::Effect::{self, Anchor, Push, Room, StoreLink};
+use crate::steps::Effect::{self, Anchor, Nothing, Push, Room, StoreLink, VectorPush};
 
 /// Reports with the answers of the batch programs.
 #[derive(Default)]
@@ -215,6 +216,57 @@ fn adjust_3f4() -> Example {
     }
 }
 
+/// r11 of the frame chain.
+const R11: u32 = 1 << 11;
+
+/// `push.w {r11,lr}`, `mov r11,sp`; `pop.w {r11,pc}`. What the nop stands for is not to be undone.
+fn chain_alone() -> Example {
+    let push = Push(R11 | LINK);
+    Example {
+        start: 0x1000,
+        length: 0x20,
+        record: Record::Packed(0x003f_0041),
+        prologue: vec![(push, 4), (Nothing, 2)],
+        epilogue: vec![(push, 4)],
+        branch: 0,
+        epilogue_starts: vec![0x1c],
+    }
+}
+
+/// `push {r0-r3}`, `push.w {r11,lr}`, `mov r11,sp`, `vpush {d8,d9}`, `sub sp,#8`; `add sp,#8`,
+/// `vpop {d8,d9}`, `ldr r11,[sp],#4`, `ldr pc,[sp],#20`.
+fn chain_with_vectors() -> Example {
+    let vectors = VectorPush(8, 9);
+    Example {
+        start: 0x1000,
+        length: 0x30,
+        record: Record::Packed(0x00b9_8061),
+        prologue: vec![
+            (Room(4), 2),
+            (Push(R11 | LINK), 4),
+            (Nothing, 2),
+            (vectors, 4),
+            (Room(2), 2),
+        ],
+        epilogue: vec![(Room(2), 2), (vectors, 4), (Push(R11), 4), (StoreLink(5), 4)],
+        branch: 0,
+        epilogue_starts: vec![0x22],
+    }
+}
+
+/// `push.w {r3,r11,lr}`, `add.w r11,sp,#4`; `add sp,#4`, `pop.w {r11,pc}`.
+fn chain_folded() -> Example {
+    Example {
+        start: 0x1000,
+        length: 0x20,
+        record: Record::Packed(0xfd3f_0041),
+        prologue: vec![(Push(1 << 3 | R11 | LINK), 4), (Nothing, 4)],
+        epilogue: vec![(Room(1), 2), (Push(R11 | LINK), 4)],
+        branch: 0,
+        epilogue_starts: vec![0x1a],
+    }
+}
+
 fn full(length: u32, scopes: Scopes, codes: &[u8], handler: u32) -> Record {
     let record = FullRecord {
         length,
@@ -245,6 +297,9 @@ pub fn vectors() -> Vectors {
         full_of_01(),
         adjust_3f3(),
         adjust_3f4(),
+        chain_alone(),
+        chain_with_vectors(),
+        chain_folded(),
     ];
     for example in &examples {
         example.stop_in_prologue(&mut vectors);

@@ -6,6 +6,7 @@ use crate::chain::chain;
 use crate::damage::damaged;
 use crate::draft::{Draft, LR, PC, SP};
 use crate::edges;
+use crate::frame_chain::frame_chain;
 use crate::full;
 use crate::functions::Function;
 use crate::guarded::guarded;
@@ -17,7 +18,7 @@ use crate::scene::{furnish, Mix, Room};
 use crate::unfit;
 
 /// The names of the kinds.
-pub const KINDS: [&str; 22] = [
+pub const KINDS: [&str; 23] = [
     "packed",
     "full",
     "chain",
@@ -40,12 +41,13 @@ pub const KINDS: [&str; 22] = [
     "aimed, file",
     "garbage",
     "regions",
+    "frame chain",
 ];
 
 /// Case `number` of the run with this seed.
 pub fn case(seed: u64, number: u64) -> Case {
     let rng = &mut Rng::new(seed, number);
-    match rng.within(0..=1_099) {
+    match rng.within(0..=1_199) {
         0..=229 => one_frame(rng, "packed", packed::any),
         230..=439 => one_frame(rng, "full", full::any),
         440..=509 => chain(rng),
@@ -60,7 +62,8 @@ pub fn case(seed: u64, number: u64) -> Case {
         860..=949 => aims::second_frame(rng),
         950..=981 => unfit::file(rng),
         982..=999 => garbage(rng),
-        _ => guarded(rng),
+        1_000..=1_099 => guarded(rng),
+        _ => frame_chain(rng),
     }
 }
 
@@ -160,7 +163,7 @@ fn deep_walk(rng: &mut Rng) -> Case {
     draft.set_stack(&words);
     let full = frames > 256;
     let known = Known::Stops { frames: if full { 256 } else { frames }, full };
-    Case { kind: "deep", report: draft.bytes(), known }
+    Case::new("deep", draft.bytes(), known)
 }
 
 /// Bytes without meaning, with more and more of a report around them.

@@ -10,7 +10,7 @@ use crate::packed;
 use crate::records::Scopes;
 use crate::rng::Rng;
 use crate::stands::{is_right, Piece, Spot};
-use crate::steps::ENDS;
+use crate::steps::{Effect, Step, ENDS};
 
 pub struct FitCase {
     pub kind: &'static str,
@@ -33,7 +33,7 @@ impl FitCase {
     }
 }
 
-pub const KINDS: [&str; 14] = [
+pub const KINDS: [&str; 16] = [
     "full",
     "packed",
     "near miss",
@@ -42,6 +42,8 @@ pub const KINDS: [&str; 14] = [
     "doubled",
     "swapped",
     "in code order",
+    MOV_R11,
+    ADD_R11,
     "short",
     "cramped",
     "no bytes",
@@ -49,6 +51,10 @@ pub const KINDS: [&str; 14] = [
     "bits flipped",
     "garbage",
 ];
+
+/// What sets r11 where the other one should.
+const MOV_R11: &str = "mov r11,sp";
+const ADD_R11: &str = "add.w r11,sp";
 
 /// FIT file `number` of the run with this seed. The kinds and the near misses take turns.
 pub fn case(seed: u64, number: u64) -> FitCase {
@@ -59,7 +65,8 @@ pub fn case(seed: u64, number: u64) -> FitCase {
     match turn {
         0..NEAR => near_miss(rng, round * NEAR + turn),
         60..=67 => fitting(rng, false),
-        68..=82 => fitting(rng, true),
+        68..=81 => fitting(rng, true),
+        82 => with_other_nop(rng),
         83..=85 => moved(rng),
         86..=87 => short(rng),
         88 => cramped(rng),
@@ -193,6 +200,32 @@ fn moved(rng: &mut Rng) -> FitCase {
         coded.write(stretch[0].offset, &halves[..halves.len().min(room)]);
         return FitCase::open(kind, coded.file(rng).bytes());
     }
+}
+
+/// A packed record's function that sets r11 in the other size, with the rest of its prologue moved up or
+/// down by that.
+fn with_other_nop(rng: &mut Rng) -> FitCase {
+    loop {
+        let mut coded = coded(rng, true);
+        let stretch = coded.stretches[0].clone();
+        let Some(at) = stretch.iter().position(|placed| is_nop(&placed.piece)) else {
+            continue;
+        };
+        let offset = stretch[at].offset;
+        let (kind, mut halves) = match stretch[at].piece.size() {
+            2 => (ADD_R11, vec![0xf10d, 0x0b00 | 4 * rng.within(0..=10) as u16]),
+            _ => (MOV_R11, vec![0x46eb]),
+        };
+        halves.extend(stretch[at + 1..].iter().flat_map(|placed| coded.halves(placed)));
+        halves.truncate((coded.code.len() - offset as usize) / 2);
+        coded.write(offset, &halves);
+        let answer = format!("refused 17 at {offset:08x}\n");
+        return FitCase::known(kind, coded.file(rng).bytes(), answer);
+    }
+}
+
+fn is_nop(piece: &Piece) -> bool {
+    matches!(piece, Piece::Code(Step { effect: Effect::Nothing, .. }))
 }
 
 /// Right code that ends early.

@@ -127,6 +127,47 @@ const EPILOGUES: &[Row] = &[
     (&[0xe0, 0xfe], &[0xecbd, 0x8b02, 0xf000, 0xf800], Some(4)),
 ];
 
+/// r11 and LR pushed alone, r11 set, nothing else: the word's fields but for the length.
+const CHAIN: PackedFields = PackedFields { c: true, ..PackedFields::CALLING };
+
+/// Packed records that set r11, the code of the whole function, and the first difference.
+const CHAINS: &[(PackedFields, &[u16], Option<u32>)] = &[
+    // push.w {r11,lr}; mov r11,sp; pop.w {r11,pc}.
+    (CHAIN, &[0xe92d, 0x4800, 0x46eb, 0xe8bd, 0x8800], None),
+    (CHAIN, &[0xe92d, 0x4800, 0x46eb, 0xbf00, 0xe8bd, 0x8800], None),
+    // add.w r11,sp,#0 in its place; nops of both sizes.
+    (CHAIN, &[0xe92d, 0x4800, 0xf10d, 0x0b00, 0xe8bd, 0x8800], Some(4)),
+    (CHAIN, &[0xe92d, 0x4800, 0xbf00, 0xbf00, 0xe8bd, 0x8800], None),
+    (CHAIN, &[0xe92d, 0x4800, 0xf3af, 0x8000, 0xe8bd, 0x8800], Some(4)),
+    // vpush {d8,d9} behind it.
+    (VECTORS, &[0xe92d, 0x4800, 0x46eb, 0xed2d, 0x8b04, 0xecbd, 0x8b04, 0xe8bd, 0x8800], None),
+    (
+        VECTORS,
+        &[0xe92d, 0x4800, 0xf10d, 0x0b00, 0xed2d, 0x8b04, 0xecbd, 0x8b04, 0xe8bd, 0x8800],
+        Some(4),
+    ),
+    // push {r0-r3} before it, and ldr r11,[sp],#4; ldr pc,[sp],#20 at the end.
+    (HOME, &[0xb40f, 0xe92d, 0x4800, 0x46eb, 0xf85d, 0xbb04, 0xf85d, 0xfb14], None),
+    (HOME, &[0xb40f, 0xe92d, 0x4800, 0xf10d, 0x0b00, 0xf85d, 0xbb04, 0xf85d, 0xfb14], Some(6)),
+    // push.w {r3,r11,lr}; add.w r11,sp,#4; then add sp,#4 and pop.w {r11,pc}, or pop.w {r3,r11,pc}.
+    (PF, &[0xe92d, 0x4808, 0xf10d, 0x0b04, 0xb001, 0xe8bd, 0x8800], None),
+    (PF, &[0xe92d, 0x4808, 0x46eb, 0xbf00, 0xb001, 0xe8bd, 0x8800], Some(4)),
+    (BOTH, &[0xe92d, 0x4808, 0xf10d, 0x0b04, 0xe8bd, 0x8808], None),
+    // EF alone: sub sp,#4 has the room, and pop.w {r3,r11,pc} gives it back.
+    (EF, &[0xe92d, 0x4800, 0x46eb, 0xb081, 0xe8bd, 0x8808], None),
+    (EF, &[0xe92d, 0x4800, 0xf10d, 0x0b00, 0xb081, 0xe8bd, 0x8808], Some(4)),
+    // push.w {r4,r11,lr}; add.w r11,sp,#4; pop.w {r4,r11,pc}.
+    (R4, &[0xe92d, 0x4810, 0xf10d, 0x0b04, 0xe8bd, 0x8810], None),
+    (R4, &[0xe92d, 0x4810, 0x46eb, 0xbf00, 0xe8bd, 0x8810], Some(4)),
+];
+
+const VECTORS: PackedFields = PackedFields { reg: 1, ..CHAIN };
+const HOME: PackedFields = PackedFields { h: true, ..CHAIN };
+const PF: PackedFields = PackedFields { stack_adjust: 0x3f4, ..CHAIN };
+const EF: PackedFields = PackedFields { stack_adjust: 0x3f8, ..CHAIN };
+const BOTH: PackedFields = PackedFields { stack_adjust: 0x3fc, ..CHAIN };
+const R4: PackedFields = PackedFields { r: false, reg: 0, ..CHAIN };
+
 fn bytes_of(halves: &[u16]) -> Vec<u8> {
     halves.iter().flat_map(|half| half.to_le_bytes()).collect()
 }
@@ -181,6 +222,15 @@ pub fn examples() -> Vec<(FitFile, String)> {
     // push {r0-r3}, push {lr}; then ldr pc,[sp],#20.
     let home = PackedFields { h: true, length: 8, ..PackedFields::CALLING };
     all.push((packed(home.word(), bytes_of(&[0xb40f, 0xb500, 0xf85d, 0xfb14])), answer(None)));
+    for (fields, halves, differs) in CHAINS {
+        let length = 2 * halves.len() as u32;
+        let word = PackedFields { length, ..*fields }.word();
+        all.push((packed(word, bytes_of(halves)), answer(*differs)));
+    }
+    // 2 bytes short of push.w, mov and pop.w.
+    let cramped = PackedFields { length: 8, ..CHAIN };
+    let code = bytes_of(&[0xe92d, 0x4800, 0x46eb, 0xe8bd, 0x8800]);
+    all.push((packed(cramped.word(), code), "refused 7\n".to_string()));
     let mut short = fitting_file();
     short.code.pop();
     all.push((short, "refused 18\n".to_string()));

@@ -16,7 +16,7 @@ const LISTED: &str = "register that fits";
 const BORDER: &str = "border that fits";
 
 /// Rows of the code table with the form of the instruction, where there are several.
-const PROLOGUE: [&str; 32] = [
+const PROLOGUE: [&str; 33] = [
     "00-7F",
     "00-7F push",
     "80-BF T2",
@@ -48,6 +48,7 @@ const PROLOGUE: [&str; 32] = [
     "packed list",
     "packed list T2",
     "packed d",
+    "packed FB",
     "packed FC",
 ];
 
@@ -100,7 +101,7 @@ const EPILOGUE: [&str; 45] = [
 ];
 
 pub fn groups() -> Vec<Group> {
-    let in_prologue = ["packed amount", "packed list", "packed d", "packed FC"];
+    let in_prologue = ["packed amount", "packed list", "packed d", "packed FB", "packed FC"];
     let in_epilogue = ["packed amount", "packed list", "packed d", "packed EF"];
     let ends = ["FD", "FE", "packed FD", "packed FE"];
     vec![
@@ -127,6 +128,7 @@ fn row_of(role: &Role, packed: bool) -> &'static str {
         (None, Undo::Pop(_)) => "packed list",
         (None, Undo::VectorPop(..)) => "packed d",
         (None, Undo::LoadLink(_)) => "packed EF",
+        (None, _) if undone.size == 2 => "packed FB",
         (None, _) => "packed FC",
     }
 }

@@ -1,5 +1,6 @@
-//! The FIT files of `samples/`: two functions as a compiler wrote them, with its records, and one whose
-//! record lacks a push. The answers were found by reading.
+//! The FIT files of `samples/`: two functions as a compiler wrote them, with its records, one whose
+//! record lacks a push, and one with a packed record in the place of the compiler's. The answers were
+//! found by reading.
 
 use crate::fit_file::FitFile;
 
@@ -28,6 +29,19 @@ const PROBING: [u16; 28] = [
     0x4628, 0xf000, 0xf89e, 0x4620, 0x2100, 0x2200, 0xf000, 0xf897, 0x4628, 0xf000, 0xf896, 0xf50d,
     0x5d0c, 0xb00a, 0xe8bd, 0x88f0,
 ];
+
+/// The same compiler, not linked, of a function that saves nothing but what the frame chain needs:
+/// `push.w {r11,lr}`, `mov r11,sp`, `sub sp,#8`; at the end `add sp,#8`, `pop.w {r11,pc}`.
+const CHAINING: [u16; 14] = [
+    0xe92d, 0x4800, 0x46eb, 0xb082, 0x9001, 0x9100, 0x9801, 0xf000, 0xf800, 0x9900, 0x4408, 0xb002,
+    0xe8bd, 0x8800,
+];
+
+/// R=1, Reg=7, L=1, C=1, Stack Adjust 2, 28 bytes long.
+fn chaining() -> FitFile {
+    let code = CHAINING.iter().flat_map(|half| half.to_le_bytes()).collect();
+    FitFile { word: 0x00bf_0039, xdata_rva: 0, xdata: Vec::new(), code }
+}
 
 /// A full record of one head word.
 fn file(rva: u32, head: u32, codes: &[u8], halves: &[u16]) -> FitFile {
@@ -61,5 +75,6 @@ pub fn samples() -> Vec<FitSample> {
             file: file(0x20e8, 0x44a0_001c, &probing, &PROBING),
             answer: "refused 17 at 00000010\n",
         },
+        FitSample { name: "frame-chain-packed", file: chaining(), answer: "fits\n" },
     ]
 }

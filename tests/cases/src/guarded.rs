@@ -44,7 +44,7 @@ pub fn guarded(rng: &mut Rng) -> Case {
     write_tables(rng, &mut draft, &functions);
     write_thread(rng, &mut draft, &frames);
     let known = Known::Outline(text(&draft, &functions, &frames));
-    Case { kind: "regions", report: draft.bytes(), known }
+    Case::new("regions", draft.bytes(), known)
 }
 
 /// Starts and lengths, with something between.

@@ -11,6 +11,7 @@ use peer::walk::Stop;
 
 use crate::case::Case;
 use crate::families::KINDS;
+use crate::frame_chain;
 use crate::known::Answers;
 use crate::outlines;
 
@@ -49,6 +50,7 @@ const PACKED_FIELDS: &str = "packed Ret H L C R";
 const PACKED_SAVED: &str = "packed saved";
 const PACKED_ADJUST: &str = "packed Stack Adjust";
 const KIND: &str = "kind of report";
+const FRAME_CHAIN: &str = "frame chain, r11 and lr pushed";
 
 impl Histogram {
     pub fn new() -> Histogram {
@@ -74,6 +76,7 @@ impl Histogram {
             Group::new(PACKED_SAVED, saved),
             Group::new(PACKED_ADJUST, ADJUSTS.map(|(_, name)| name)),
             Group::new(KIND, KINDS),
+            Group::new(FRAME_CHAIN, frame_chain::classes()),
         ];
         groups.extend(outlines::groups());
         Histogram { groups }
@@ -95,6 +98,7 @@ impl Histogram {
 
     pub fn take(&mut self, case: &Case, report: Option<&Report>, answers: Option<&Answers>) {
         self.count(KIND, case.kind);
+        case.aims.iter().for_each(|aim| self.count(FRAME_CHAIN, aim));
         match (report, answers) {
             (Some(report), Some(answers)) => {
                 self.take_caller(report, answers);

@@ -5,7 +5,7 @@ use peer::function::Place;
 use peer::machine::{PC, SP};
 use peer::refusal::Refusal;
 use peer::report::Report;
-use peer::text::{outline, ROOM};
+use peer::text::{outline, place_name, ROOM};
 use peer::walk::{walk, Stop, Walk};
 
 use crate::case::{Case, Chain, Known};
@@ -71,7 +71,9 @@ fn is_chain(answers: &Answers, chain: &Chain) -> bool {
     let walked = answers.walk.stop == Stop::End && frames.eq(chain.frames.iter().copied());
     let found = answers.caller.as_ref().is_ok_and(|caller| {
         let registers = &caller.registers;
-        registers.r[SP] == chain.sp
+        place_name(caller.place) == chain.place
+            && caller.ran.len() == chain.codes
+            && registers.r[SP] == chain.sp
             && registers.r[PC] == chain.pc
             && registers.r[4..12] == chain.r
             && registers.d[8..16] == chain.d

@@ -22,6 +22,7 @@ mod fit_file;
 mod fit_functions;
 mod fit_instructions;
 mod fit_samples;
+mod frame_chain;
 mod framing;
 mod full;
 mod functions;

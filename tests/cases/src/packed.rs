@@ -20,13 +20,19 @@ pub fn any(rng: &mut Rng) -> Function {
 pub fn in_chain(rng: &mut Rng) -> Function {
     loop {
         let fields = PackedFields { length: 2 * rng.within(30..=90), ..random_fields(rng) };
-        let adjust = Adjust::of(fields.stack_adjust);
-        let saves_vectors = fields.r && fields.reg != 7;
-        let agree = !saves_vectors || adjust.prologue_folds == adjust.epilogue_folds;
-        if fields.sound() && fields.l && fields.flag == 1 && agree && adjust.words < 64 {
+        let small = Adjust::of(fields.stack_adjust).words < 64;
+        if fields.sound() && fields.l && fields.flag == 1 && ends_agree(&fields) && small {
             return lay_out(fields);
         }
     }
+}
+
+/// Whether the epilogue undoes what the prologue did: an amount that only one of them folds is on the other
+/// side of the d registers for the other.
+pub fn ends_agree(fields: &PackedFields) -> bool {
+    let adjust = Adjust::of(fields.stack_adjust);
+    let saves_vectors = fields.r && fields.reg != 7;
+    !saves_vectors || adjust.prologue_folds == adjust.epilogue_folds
 }
 
 /// Any sound packed record with this many bytes of body.
@@ -34,11 +40,15 @@ pub fn with_body(rng: &mut Rng, room: u32) -> Function {
     loop {
         let fields = random_fields(rng);
         if fields.sound() {
-            let prologue = if fields.flag == 1 { prologue(&fields).prologue_size() } else { 0 };
-            let epilogue = epilogue(&fields).map_or(0, |list| list.epilogue_size());
-            return lay_out(PackedFields { length: prologue + room + epilogue, ..fields });
+            return lay_out(PackedFields { length: least_length(&fields) + room, ..fields });
         }
     }
+}
+
+/// Bytes of a function that is nothing but what these fields tell of.
+pub fn least_length(fields: &PackedFields) -> u32 {
+    let prologue = if fields.flag == 1 { prologue(fields).prologue_size() } else { 0 };
+    prologue + epilogue(fields).map_or(0, |list| list.epilogue_size())
 }
 
 fn random_length(rng: &mut Rng) -> u32 {
@@ -49,7 +59,7 @@ fn random_length(rng: &mut Rng) -> u32 {
     }
 }
 
-fn lay_out(fields: PackedFields) -> Function {
+pub fn lay_out(fields: PackedFields) -> Function {
     let at_end = epilogue(&fields)
         .map(|list| Epilogue { start: fields.length.saturating_sub(list.epilogue_size()), list });
     Function {
@@ -69,7 +79,7 @@ fn random_fields(rng: &mut Rng) -> PackedFields {
         h: rng.flag(),
         reg: rng.within(0..=7),
         r: rng.flag(),
-        l: rng.percent(58),
+        l: rng.percent(56),
         c: rng.percent(45),
         stack_adjust: random_adjust(rng),
     }
@@ -137,13 +147,20 @@ fn link(fields: &PackedFields) -> u32 {
     u32::from(fields.l) << 14
 }
 
+/// What makes r11 point at its saved value: `mov r11,sp` if that is the lowest and LR the only other one,
+/// `add r11,sp,#n`, which has no 16-bit form, if r4-rX or a fold were pushed with them.
+fn set_r11(fields: &PackedFields, adjust: &Adjust) -> Step {
+    let alone = fields.r && !adjust.prologue_folds;
+    bare(Effect::Nothing, if alone { 2 } else { 4 })
+}
+
 fn prologue(fields: &PackedFields) -> List {
     let adjust = Adjust::of(fields.stack_adjust);
     let fold = adjust.prologue_folds.then_some(adjust.words);
     let steps = [
         room(&adjust, adjust.prologue_folds),
         vectors(fields),
-        fields.c.then(|| bare(Effect::Nothing, 4)),
+        fields.c.then(|| set_r11(fields, &adjust)),
         transfer(integer_list(fields, fold) | link(fields), true),
         fields.h.then(|| bare(Effect::Room(4), 2)),
     ];

@@ -75,7 +75,8 @@ const ANSWERS: [&str; 14] = [
     "word 0", "word 4", "codes 0", "codes 4", "text",
 ];
 
-const ROWS: [&str; 9] = ["00-7F", "80-BF", "D0-D7", "D8-DF", "E0-E7", "E8-EB", "EC-ED", "EF", "FC"];
+const ROWS: [&str; 10] =
+    ["00-7F", "80-BF", "D0-D7", "D8-DF", "E0-E7", "E8-EB", "EC-ED", "EF", "FB", "FC"];
 
 /// What the requests meet, and those that the peer does not answer as is known.
 pub fn count(seed: u64, cases: u64) -> (Histogram, u64, Vec<String>) {

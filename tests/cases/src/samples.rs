@@ -2,12 +2,12 @@
 //! document 01 and from Microsoft's page, and what a person at the bench may meet in such reports.
 //! Every answer is known before an unwinder is asked: by execution, or by the damage done.
 
-use crate::draft::{Draft, LR, PC};
+use crate::draft::{Draft, LR, PC, SP};
 use crate::examples::{
     full_of_01, listing_caller, listing_draft, packed_of_01, page_2, page_3, page_4, page_5,
     page_6, page_7, refused_text, Example, Record, LISTING,
 };
-use crate::steps::Effect::{Push, Room, VectorPush};
+use crate::steps::Effect::{Nothing, Push, Room, VectorPush};
 use crate::tables::{table_bytes, Region};
 use crate::thread::{Stopped, Thread};
 
@@ -84,6 +84,20 @@ fn floating() -> Example {
     }
 }
 
+/// `push.w {r11,lr}`, `mov r11,sp`, `sub sp,#8`: R=1, Reg=7, L=1, C=1, Stack Adjust 2, 32 bytes long.
+fn chaining() -> Example {
+    let push = Push(1 << 11 | LINK);
+    Example {
+        start: 0x5000,
+        length: 0x20,
+        record: Record::Packed(0x00bf_0041),
+        prologue: vec![(push, 4), (Nothing, 2), (Room(2), 2)],
+        epilogue: vec![(Room(2), 2), (push, 4)],
+        branch: 0,
+        epilogue_starts: vec![0x1a],
+    }
+}
+
 /// A part of the page's example 4 that stands elsewhere, 64 bytes long: F=1, E=1, the same codes. Its
 /// prologue is that of the whole function, which has been executed when the part is reached.
 fn elsewhere() -> Example {
@@ -123,6 +137,7 @@ pub fn samples() -> Vec<Sample> {
     samples.extend(damaged());
     samples.extend([
         fault_in_a_prologue(),
+        frame_chain(),
         pc_outside(),
         caller_outside(),
         too_deep(),
@@ -189,6 +204,15 @@ fn record_bytes(function: &Example) -> usize {
 fn fault_in_a_prologue() -> Sample {
     Sample::new("fault-in-a-prologue", &listing_draft(), LISTING.to_string())
         .with_caller(listing_caller())
+}
+
+/// Stopped behind `mov r11,sp`, which has 16 bits since nothing else is pushed.
+fn frame_chain() -> Sample {
+    let thread = begin().calls_from(&page_2(), 0x20);
+    let mut stopped =
+        thread.stops_in_prologue(&chaining(), 2).within(&[plain(), chaining(), page_2()]);
+    stopped.draft.r[11] = stopped.draft.r[SP];
+    Sample::ends("frame-chain", &stopped).with_caller(stopped.caller.clone())
 }
 
 /// A call through a pointer that is 0.

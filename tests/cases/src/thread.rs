@@ -61,6 +61,14 @@ impl Thread {
         self.stop(function.start + offset, function.says("body", &function.prologue))
     }
 
+    /// Stops when some instructions of the prologue are done.
+    pub fn stops_in_prologue(mut self, function: &Example, done: usize) -> Stopped {
+        let before = &function.prologue[..done];
+        before.iter().for_each(|(effect, _)| self.processor.execute(*effect));
+        let offset: u32 = before.iter().map(|(_, size)| size).sum();
+        self.stop(function.start + offset, function.says("prologue", before))
+    }
+
     /// Stops when some instructions of the first epilogue are done.
     pub fn stops_in_epilogue(mut self, function: &Example, done: usize) -> Stopped {
         self.enter(function);

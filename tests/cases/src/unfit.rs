@@ -16,7 +16,7 @@ pub fn file(rng: &mut Rng) -> Case {
         6..=8 => spoil_numbers(rng, &mut report),
         _ => return stretched(rng, draft),
     }
-    Case { kind: "aimed, file", report, known: Known::FirstRefused(14) }
+    Case::new("aimed, file", report, Known::FirstRefused(14))
 }
 
 /// Numbers that do not add up, also those that would if they wrapped.
@@ -41,5 +41,5 @@ fn stretched(rng: &mut Rng, mut draft: Draft) -> Case {
     let missing = LONGEST + over - draft.bytes().len();
     draft.stack.extend(vec![0; missing]);
     let known = if over == 0 { Known::Nothing } else { Known::FirstRefused(14) };
-    Case { kind: "aimed, file", report: draft.bytes(), known }
+    Case::new("aimed, file", draft.bytes(), known)
 }

@@ -165,7 +165,9 @@ impl Packed {
         let folded = self.prologue_folds();
         let list = self.integer_list(folded) | self.link_bit();
         let home = self.h.then(|| narrow(Undo::Raise(4)));
-        let chain = self.c.then(|| wide(Undo::Nothing));
+        // mov r11,sp where only r11 and LR were pushed; add r11,sp,#.. to pass over what lies below r11.
+        let set_chain = if list == 1 << 11 | 1 << LR { narrow } else { wide };
+        let chain = self.c.then(|| set_chain(Undo::Nothing));
         let steps = [home, transfer(list, 1 << LR), chain, self.vector(), self.room_unless(folded)];
         steps.into_iter().flatten().collect()
     }
