@@ -2,11 +2,11 @@
 -- Assumes nothing.
 use Prim.Native.Nat.{ℕ, _+_, _^_}
 use mathlib.Core.Path.{_≡_, refl}
-use mathlib.Core.List.{List, [], _∷_, _++_}
+use mathlib.Core.List.{[], _∷_, _++_}
 use lib.ListN.{replicate}
 use Rattle.lent.specs.Lent.{Lent}
 use Rattle.lent.proofs.Bytes.{bytesOf}
-use Rattle.words.specs.Units.{halfwords, stackWords, codeBytes}
+use Rattle.words.specs.Units.{stackWords, codeBytes}
 use Rattle.words.specs.declared.Place.the-variants.{Prologue, Body, Epilogue}
 use Rattle.words.specs.declared.Refusal.the-variants.{BadLayout, InsideInstruction}
 use Rattle.words.specs.declared.Verdict.the-variants.{Given}
@@ -20,7 +20,6 @@ use Rattle.packed_codes.specs.PackedCodes.{writeCodes}
 use Rattle.packed_codes.specs.Chain.{firstBefore, nop}
 use Rattle.record.specs.Record.{packedShape}
 use Rattle.record.proofs.At.{at, says}
-use Rattle.frame.specs.Frame.{Caller}
 use Rattle.listing.proofs.Opened.{opened}
 use Rattle.demands.specs.Chain.{shapeBefore, now, before}
 

@@ -14,7 +14,7 @@ use Rattle.words.specs.declared.Halfwords.{Halfwords}
 use Rattle.words.specs.declared.Verdict.the-variants.{Given}
 use Rattle.words.specs.Answer.{if_then_else_}
 use Rattle.words.proofs.Tests.{both}
-use Rattle.unwinding.specs.CodeList.{Codes, total}
+use Rattle.unwinding.specs.CodeList.{total}
 use Rattle.unwinding.proofs.Ends.{total-append}
 use Rattle.codes.specs.Table.{range, lrIf, bits16, bits32}
 use Rattle.codes.specs.Code.{size}
@@ -28,8 +28,8 @@ use Rattle.packed.proofs.IntegerLists.{range-r3}
 use Rattle.packed_codes.specs.PackedCodes.{when, upCode, vpopCode, popCode, low, pushed, chainAlone, firstList, secondList, written}
 use Rattle.packed_codes.specs.Lists.{only, sizeIf, ups, vpops, pops, homes, prologueCodes, leaving, epilogueCodes}
 use Rattle.packed_codes.specs.Chain.{firstBefore, writtenBefore, codesBefore, chainFields, nop, ButFor, Chained}
-use Rattle.packed_codes.proofs.Lengths.{lists-fit}
-use Rattle.packed_codes.proofs.Decoding.{firstWith, codesWith, reversed, prologue-is}
+use Rattle.packed_codes.proofs.Lengths.{firstWith, lists-fit}
+use Rattle.packed_codes.proofs.Decoding.{codesWith, reversed, prologue-is}
 
 -- ---- which words
 -- r4 to rN alone, or with rS to r3, is not r11

@@ -31,7 +31,7 @@ use Rattle.packed.proofs.IntegerLists.{integers-small}
 use Rattle.packed_codes.specs.Lists.{only, sizeIf, ups, vpops, pops, nops, homes, prologueCodes, leaving, epilogueCodes, Stands, Holds}
 use Rattle.packed_codes.specs.Chain.{firstBefore, writtenBefore, codesBefore}
 use Rattle.packed_codes.proofs.Buffer.{holding-bytes}
-use Rattle.packed_codes.proofs.Lengths.{lists-fit, before-fit}
+use Rattle.packed_codes.proofs.Lengths.{firstWith, lists-fit, before-fit}
 use Rattle.packed_codes.proofs.Pieces.{amount-small, leave-load, leave-return, leave-jump, second-none, second-some}
 use Rattle.packed_codes.proofs.Reading.{Reads, reads-none, reads-append, reads-when, ends, reads-up, reads-vpop, reads-nop, reads-home, reads-return, reads-pop}
 
@@ -71,12 +71,6 @@ ends-branch (suc (suc zero)) h n m =
 ends-branch (suc (suc (suc k))) h n m = absurd (m (omega arith))
 
 -- ---- the two lists
--- the first list with this code as the nop, for C=1
-abbrev pub firstWith : Packed → (nop : ℕ) → List ℕ
-firstWith p n =
-    let l : ℕ = integers p (PF p) in
-    when (not (PF p)) (upCode (amount p)) ++ vpopCode p ++ when (eqb (p .c) 1) (n ∷ []) ++ popCode (low l) l (p .l) ++ when (eqb (p .h) 1) (0x04 ∷ []) ++ (0xFF ∷ [])
-
 -- the prologue's pieces, from the last to the first
 reverse-only : (t : Bool) (u : Undo) (n : Halfwords) → reverse (only t u n) ≡ only t u n
 reverse-only true u n = refl

@@ -52,8 +52,13 @@ pop-short : (narrow : Bool) (l b : ℕ) → Short (popCode narrow l b) 2
 pop-short true l b = when-short (not (eqb (l + b) 0)) (d-short (upTo 4 4 l) 0xD0 b two)
 pop-short false l b = when-short (not (eqb (l + b) 0)) (d-short (upTo 4 8 l) 0xD8 b two)
 
--- with any byte for the nop
-with-most : (p : Packed) (nop : ℕ) → Short (when (not (PF p)) (upCode (amount p)) ++ vpopCode p ++ when (eqb (p .c) 1) (nop ∷ []) ++ popCode (low (integers p (PF p))) (integers p (PF p)) (p .l) ++ when (eqb (p .h) 1) (0x04 ∷ []) ++ (0xFF ∷ [])) 8
+-- the first list with this byte as the nop, for C=1
+abbrev pub firstWith : Packed → (nop : ℕ) → List ℕ
+firstWith p n =
+    let l : ℕ = integers p (PF p) in
+    when (not (PF p)) (upCode (amount p)) ++ vpopCode p ++ when (eqb (p .c) 1) (n ∷ []) ++ popCode (low l) l (p .l) ++ when (eqb (p .h) 1) (0x04 ∷ []) ++ (0xFF ∷ [])
+
+with-most : (p : Packed) (nop : ℕ) → Short (firstWith p nop) 8
 with-most p n =
     let l : ℕ = integers p (PF p) in
     let sub = when-short (not (PF p)) (up-short (amount p)) in
