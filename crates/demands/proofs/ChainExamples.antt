@@ -1,4 +1,4 @@
--- Order 4 by examples: records with C=1 at each offset of their prologues, before the order and now (RULES 4.22).
+-- Order 4 by examples: records with C=1 at offsets of their prologues, before the order and now (RULES 4.22).
 -- Assumes nothing.
 use Prim.Native.Nat.{ℕ, _+_, _^_}
 use mathlib.Core.Path.{_≡_, refl}
@@ -102,6 +102,18 @@ caller-was = refl
 abbrev vectors : ℕ
 vectors = 0x00B98041
 
+vectors-0 : (is vectors 0 ≡ says Prologue []) × (was vectors 0 ≡ says Prologue [])
+unfolding opened shapeBefore firstBefore
+vectors-0 = (refl, refl)
+
+vectors-2 : (is vectors 2 ≡ says Prologue (homed ∷ [])) × (was vectors 2 ≡ says Prologue (homed ∷ []))
+unfolding opened shapeBefore firstBefore
+vectors-2 = (refl, refl)
+
+vectors-4 : (is vectors 4 ≡ refuse InsideInstruction) × (was vectors 4 ≡ refuse InsideInstruction)
+unfolding opened shapeBefore firstBefore
+vectors-4 = (refl, refl)
+
 vectors-6 : (is vectors 6 ≡ says Prologue (pushed ∷ homed ∷ [])) × (was vectors 6 ≡ says Prologue (pushed ∷ homed ∷ []))
 unfolding opened shapeBefore firstBefore
 vectors-6 = (refl, refl)
@@ -132,9 +144,20 @@ folded-codes :
 unfolding opened
 folded-codes = refl
 
-folded-6 : is folded 6 ≡ refuse InsideInstruction
-unfolding opened
-folded-6 = refl
+abbrev pushed3 : Code
+pushed3 = record { undo = Pop (2 ^ 3 + 2 ^ 11 + 2 ^ 14); size = bits32 }
+
+folded-4 : (is folded 4 ≡ says Prologue (pushed3 ∷ [])) × (was folded 4 ≡ says Prologue (pushed3 ∷ []))
+unfolding opened shapeBefore firstBefore
+folded-4 = (refl, refl)
+
+folded-6 : (is folded 6 ≡ refuse InsideInstruction) × (was folded 6 ≡ refuse InsideInstruction)
+unfolding opened shapeBefore firstBefore
+folded-6 = (refl, refl)
+
+folded-8 : (is folded 8 ≡ says Body (nop bits32 ∷ pushed3 ∷ [])) × (was folded 8 ≡ says Body (nop bits32 ∷ pushed3 ∷ []))
+unfolding opened shapeBefore firstBefore
+folded-8 = (refl, refl)
 
 -- ---- r4, r11 and LR: FC too
 others-codes :
