@@ -8,11 +8,11 @@ use lib.ListN.{length, take, drop, length-drop}
 use lib.Dec.{leb}
 use native.Mathlib.Omega.{arith}
 use borrow.Author.Tests.{leb-true, leb-false, le-leb, lt-leb}
-use Rattle.words.specs.Units.{codeBytes}
+use Rattle.words.specs.Units.{code_bytes}
 use Rattle.words.specs.Answer.{if◌then◌else◌}
 use Rattle.unwinding.specs.Taking.{Taken as AnyTaken, one, last, bad}
-use Rattle.codes.specs.Table.{rowOf}
-use Rattle.codes.specs.Code.{value, taken, takeFrom, takeAt, seen, taking}
+use Rattle.codes.specs.Table.{row_of}
+use Rattle.codes.specs.Code.{value, taken, take_from, take_at, seen, taking}
 use Rattle.codes.specs.declared.Code.{Code}
 use Rattle.codes.specs.declared.Meaning.{Meaning}
 use Rattle.codes.specs.declared.Meaning.TheVariants.{Does, End, Undefined}
@@ -22,7 +22,7 @@ use Rattle.bad_byte.specs.Lists.{Begins, asked, left, Whole, CutShort, BadCode}
 
 -- what stands at an index, by what is taken there
 abbrev pub Stands : (s : List ℕ) (i : ℕ) → AnyTaken Code → Type 0
-Stands s i (one c next) = (w : Whole s i (Does c.undo)) × (next ≡ codeBytes (i + asked w.code))
+Stands s i (one c next) = (w : Whole s i (Does c.undo)) × (next ≡ code_bytes (i + asked w.code))
 Stands s i (last n) = Whole s i End
 Stands s i (bad j) = BadCode s i j.0
 
@@ -32,48 +32,48 @@ begins-left {s} {i} b = let e : left b ≡ length s - i = sym (ap length b.here)
 
 module _ (s : List ℕ) (i : ℕ) where
   pub stands : Stands s i (taking i (drop i s))
-  unfolding takeFrom
+  unfolding take_from
   stands = go (drop i s) refl
     where
       go : (l : List ℕ) → drop i s ≡ l → Stands s i (taking i l)
       go [] e = BadCode.past (omega (arith, ap length e, length-drop i s))
-      go (b ∷ l) e = by_bytes (leb (rowOf b).bytes (length (b ∷ l))) refl
+      go (b ∷ l) e = by_bytes (leb (row_of b).bytes (length (b ∷ l))) refl
         where
           begins : Begins s i
           begins = record { first = b; behind = l; here = e }
 
           m : Meaning
-          m = (rowOf b).means (value (take (rowOf b).bytes (b ∷ l)) 0)
+          m = (row_of b).means (value (take (row_of b).bytes (b ∷ l)) 0)
 
-          whole : (x : Meaning) → m ≡ x → (rowOf b).bytes ≤ length (b ∷ l) → Stands s i (seen (taken i (rowOf b) x))
+          whole : (x : Meaning) → m ≡ x → (row_of b).bytes ≤ length (b ∷ l) → Stands s i (seen (taken i (row_of b) x))
           whole (Does u) q h = (record { code = begins; there = h; means = q }, refl)
           whole End q h = record { code = begins; there = h; means = q }
           whole Undefined q h = BadCode.undefined (record { code = begins; there = h; means = q })
 
           by_bytes :
-              (x : Bool) → leb (rowOf b).bytes (length (b ∷ l)) ≡ x
-              → Stands s i (seen (if x then taken i (rowOf b) m else BadTaken (codeBytes (i + length (b ∷ l)))))
+              (x : Bool) → leb (row_of b).bytes (length (b ∷ l)) ≡ x
+              → Stands s i (seen (if x then taken i (row_of b) m else BadTaken (code_bytes (i + length (b ∷ l)))))
           by_bytes true q = whole m refl (leb-true _ _ q)
           by_bytes false q =
               subst (BadCode s i) (sym (begins-left begins)) (BadCode.cut (record { code = begins; short = leb-false _ _ q }))
 
   -- and the other way
-  pub takes_whole : {m : Meaning} (w : Whole s i m) → takeAt s (codeBytes i) ≡ taken i (rowOf w.code.first) m
-  unfolding takeFrom
+  pub takes_whole : {m : Meaning} (w : Whole s i m) → take_at s (code_bytes i) ≡ taken i (row_of w.code.first) m
+  unfolding take_from
   takes_whole w =
-      let r = rowOf w.code.first in
-      ap (takeFrom i) w.code.here ∙ rw (le-leb (asked w.code) (left w.code) w.there) (ap (taken i r) w.means)
+      let r = row_of w.code.first in
+      ap (take_from i) w.code.here ∙ rw (le-leb (asked w.code) (left w.code) w.there) (ap (taken i r) w.means)
 
-  takes-short : CutShort s i → takeAt s (codeBytes i) ≡ BadTaken (codeBytes (length s))
-  unfolding takeFrom
+  takes-short : CutShort s i → take_at s (code_bytes i) ≡ BadTaken (code_bytes (length s))
+  unfolding take_from
   takes-short c =
-      ap (takeFrom i) c.code.here
-      ∙ rw (lt-leb (asked c.code) (left c.code) c.short) (ap (λ n. BadTaken (codeBytes n)) (begins-left c.code))
+      ap (take_from i) c.code.here
+      ∙ rw (lt-leb (asked c.code) (left c.code) c.short) (ap (λ n. BadTaken (code_bytes n)) (begins-left c.code))
 
-  pub code-tells : (j : ℕ) → takeAt s (codeBytes i) ≡ BadTaken (codeBytes j) → BadCode s i j
+  pub code-tells : (j : ℕ) → take_at s (code_bytes i) ≡ BadTaken (code_bytes j) → BadCode s i j
   code-tells j e = subst (Stands s i) (ap seen e) stands
 
-  pub tells-code : (j : ℕ) → BadCode s i j → takeAt s (codeBytes i) ≡ BadTaken (codeBytes j)
+  pub tells-code : (j : ℕ) → BadCode s i j → take_at s (code_bytes i) ≡ BadTaken (code_bytes j)
   tells-code j (BadCode.past h) = take_past s i h
   tells-code j (BadCode.undefined w) = takes_whole w
   tells-code j (BadCode.cut c) = takes-short c

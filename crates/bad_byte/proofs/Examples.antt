@@ -5,7 +5,7 @@ use mathlib.Core.Path.{◌≡◌, refl}
 use mathlib.Core.Bool.{false}
 use mathlib.Core.List.{List, [], ◌∷◌}
 use native.Mathlib.Omega.{arith}
-use Rattle.words.specs.Units.{codeBytes}
+use Rattle.words.specs.Units.{code_bytes}
 use Rattle.words.specs.declared.Refusal.TheVariants.{BadCodes}
 use Rattle.words.specs.Answer.{Res, refuse}
 use Rattle.unwinding.specs.CodeList.{Codes}
@@ -13,7 +13,7 @@ use Rattle.unwinding.specs.Shape.{Shape}
 use Rattle.unwinding.specs.View.{View, view}
 use Rattle.unwinding.specs.declared.Scope.{Scope}
 use Rattle.unwinding.specs.declared.Start.TheVariants.{From}
-use Rattle.codes.specs.Code.{size, codesAt}
+use Rattle.codes.specs.Code.{size, codes_at}
 use Rattle.codes.specs.Condition.{always}
 use Rattle.codes.specs.declared.Code.{Code}
 use Rattle.codes.specs.declared.Meaning.TheVariants.{Does}
@@ -23,10 +23,10 @@ use Rattle.bad_byte.specs.Lists.{Whole, Decodes, Reads, Bad}
 use Rattle.bad_byte.specs.Records.{here, later, FirstBad}
 
 abbrev at : List ℕ → ℕ → Res (Codes Code)
-at s i = codesAt s (codeBytes i)
+at s i = codes_at s (code_bytes i)
 
 abbrev byte : {A : Type 0} → ℕ → Res A
-byte j = refuse (BadCodes (codeBytes j))
+byte j = refuse (BadCodes (code_bytes j))
 
 -- a code that is undefined by its first byte, by its second, or as the last byte tells where it begins
 undefined-1 : at (0xFB ∷ 0xEE ∷ 0xFF ∷ []) 0 ≡ byte 1
@@ -94,13 +94,13 @@ defined-past = Bad.past (omega arith)
 
 -- ---- records
 abbrev scope : ℕ → Scope
-scope i = record { start = From 0; condition = always; index = codeBytes i }
+scope i = record { start = From 0; condition = always; index = code_bytes i }
 
 abbrev shape : List ℕ → List Scope → Shape
 shape s es = record { span = 40; codes = s; fragment = false; scopes = es; handler = 0 }
 
 abbrev viewed : Shape → Res (View Code)
-viewed sh = view size codesAt sh
+viewed sh = view size codes_at sh
 
 -- of two bad scopes the first, be its byte the higher or the lower
 abbrev two : List ℕ

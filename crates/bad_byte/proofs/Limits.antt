@@ -9,25 +9,25 @@ use lib.Dec.{eqb}
 use lib.ListN.{length}
 use native.Mathlib.Omega.{arith}
 use Rattle.words.specs.Bits.{bits}
-use Rattle.words.specs.Units.{codeBytes}
+use Rattle.words.specs.Units.{code_bytes}
 use Rattle.words.specs.declared.CodeBytes.{CodeBytes}
 use Rattle.words.specs.declared.Refusal.TheVariants.{Reserved, BadCodes}
 use Rattle.words.specs.Answer.{ok, refuse, ◌>>=◌, if◌then◌else◌}
 use Rattle.words.proofs.Answers.{bind_ok, need-ok, ok_same}
-use Rattle.lent.specs.Lent.{Lent, wordAt}
+use Rattle.lent.specs.Lent.{Lent, word_at}
 use Rattle.unwinding.specs.Shape.{Shape}
 use Rattle.unwinding.specs.View.{view}
 use Rattle.unwinding.specs.declared.Scope.{Scope}
 use Rattle.unwinding.proofs.All.{All}
-use Rattle.codes.specs.Code.{size, codesAt}
-use Rattle.xdata.specs.Xdata.{E, scopeCount, headAt}
-use Rattle.xdata.specs.Scopes.{scopeOf, scopesAt}
+use Rattle.codes.specs.Code.{size, codes_at}
+use Rattle.xdata.specs.Xdata.{E, scope_count, head_at}
+use Rattle.xdata.specs.Scopes.{scope_of, scopes_at}
 use Rattle.xdata.proofs.Heads.{head_small}
 use Rattle.packed.specs.Packed.{fields, allowed}
-use Rattle.packed_codes.specs.PackedCodes.{written, writeCodes}
+use Rattle.packed_codes.specs.PackedCodes.{written, write_codes}
 use Rattle.packed_codes.specs.declared.CodesOf.{CodesOf}
 use Rattle.packed_codes.proofs.Lengths.{lists-fit}
-use Rattle.record.specs.Record.{lastScope, full_of, fullShape, packedShape, shape_at}
+use Rattle.record.specs.Record.{last_scope, full_of, full_shape, packed_shape, shape_at}
 use Rattle.record.proofs.Shapes.{shape-few}
 use Rattle.bad_byte.specs.Records.{FirstOf, here, later, FirstBad}
 use Rattle.bad_byte.proofs.Numbers.{through, shape-other}
@@ -45,42 +45,42 @@ by-test P true a b = a
 by-test P false a b = b
 
 -- a scope word's index has 8 bits
-listed_small : (x : Lent) (a n : ℕ) (l : List Scope) → scopesAt x a n ≡ ok l → Small l
-unfolding scopesAt
+listed_small : (x : Lent) (a n : ℕ) (l : List Scope) → scopes_at x a n ≡ ok l → Small l
+unfolding scopes_at
 listed_small x a zero l h = subst Small (ok_same [] l h) tt
 listed_small x a (suc n) l h =
-    let t = need-ok (eqb (bits 18 2 (wordAt x a)) 0) Reserved _ l h in
-    let r = bind_ok (scopesAt x (a + 4) n) _ l t.1 in
-    subst Small (ok_same (scopeOf (wordAt x a) ∷ r.0) l r.2) (omega arith, listed_small x (a + 4) n r.0 r.1)
+    let t = need-ok (eqb (bits 18 2 (word_at x a)) 0) Reserved _ l h in
+    let r = bind_ok (scopes_at x (a + 4) n) _ l t.1 in
+    subst Small (ok_same (scope_of (word_at x a) ∷ r.0) l r.2) (omega arith, listed_small x (a + 4) n r.0 r.1)
 
 -- with E=1 the index is the count, of at most 16 bits
-full-small : (x : Lent) (a : ℕ) (sh : Shape) → fullShape x a ≡ ok sh → Small sh.scopes
-unfolding fullShape
+full-small : (x : Lent) (a : ℕ) (sh : Shape) → full_shape x a ≡ ok sh → Small sh.scopes
+unfolding full_shape
 full-small x a sh h =
-    let d = bind_ok (headAt x a) _ sh h in
-    let l = bind_ok (scopesAt x (a + d.0.bytes) (scopeCount d.0)) _ sh d.2 in
+    let d = bind_ok (head_at x a) _ sh h in
+    let l = bind_ok (scopes_at x (a + d.0.bytes) (scope_count d.0)) _ sh d.2 in
     let few = (head_small x a d.0 d.1).count in
-    let one : Small (lastScope (codeBytes d.0.count) ∷ []) = (omega (arith, few), tt) in
+    let one : Small (last_scope (code_bytes d.0.count) ∷ []) = (omega (arith, few), tt) in
     subst (λ (s : Shape). Small s.scopes) (ok_same (full_of x a d.0 l.0) sh l.2) (by-test Small (E d.0) one (listed_small x _ _ l.0 l.1))
 
 -- a packed record's index is its first list's length
-first_small : (w : ℕ) (c : CodesOf) → writeCodes w ≡ ok c → c.first.0 ≤ 16
-unfolding writeCodes
+first_small : (w : ℕ) (c : CodesOf) → write_codes w ≡ ok c → c.first.0 ≤ 16
+unfolding write_codes
 first_small w c h =
     let t = need-ok (allowed (fields w)) Reserved (ok (written (fields w))) c h in
     subst (λ (c : CodesOf). c.first.0 ≤ 16) (ok_same (written (fields w)) c t.1) (omega (arith, lists-fit (fields w)))
 
-packed-small : (w : ℕ) (sh : Shape) → packedShape w ≡ ok sh → Small sh.scopes
-unfolding packedShape
+packed-small : (w : ℕ) (sh : Shape) → packed_shape w ≡ ok sh → Small sh.scopes
+unfolding packed_shape
 packed-small w sh h =
-    let c = bind_ok (writeCodes w) _ sh h in
-    let one : Small (lastScope c.0.first ∷ []) = (omega (arith, first_small w c.0 c.1), tt) in
+    let c = bind_ok (write_codes w) _ sh h in
+    let one : Small (last_scope c.0.first ∷ []) = (omega (arith, first_small w c.0 c.1), tt) in
     subst (λ (s : Shape). Small s.scopes) (ok_same _ sh c.2) (by-test Small (eqb (fields w).ret 3) {k = []} tt one)
 
 shape-small : (x : Lent) (w : ℕ) (sh : Shape) → shape_at x w ≡ ok sh → Small sh.scopes
 shape-small x w sh h = go (eqb (bits 0 2 w) 0) h
   where
-    go : (t : Bool) → (if t then fullShape x w else packedShape w) ≡ ok sh → Small sh.scopes
+    go : (t : Bool) → (if t then full_shape x w else packed_shape w) ≡ ok sh → Small sh.scopes
     go true q = full-small x w sh q
     go false q = packed-small w sh q
 
@@ -93,7 +93,7 @@ pub record-limit : (x : Lent) (w : ℕ) (sh : Shape) (j : ℕ) → shape_at x w 
 record-limit x w sh j h f = lists-limit sh.codes _ j (shape-few x w sh h) (omega arith, shape-small x w sh h) f
 
 -- the same of what reading a record and its lists tells
-pub viewed-limit : (x : Lent) (w : ℕ) (i : CodeBytes) → (shape_at x w >>= view size codesAt) ≡ refuse (BadCodes i) → i.0 ≤ 65535
+pub viewed-limit : (x : Lent) (w : ℕ) (i : CodeBytes) → (shape_at x w >>= view size codes_at) ≡ refuse (BadCodes i) → i.0 ≤ 65535
 viewed-limit x w i h =
-    let a = through (shape_at x w) (view size codesAt) (BadCodes i) (shape-other x w) h refl in
+    let a = through (shape_at x w) (view size codes_at) (BadCodes i) (shape-other x w) h refl in
     record-limit x w a.0 i.0 a.1 (first-told a.0 i.0 a.2)

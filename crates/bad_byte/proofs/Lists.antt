@@ -6,7 +6,7 @@ use mathlib.Core.Path.{◌≡◌, refl, sym, ap, subst, ◌∙◌}
 use mathlib.Core.List.{List}
 use lib.ListN.{length}
 use native.Mathlib.Omega.{arith}
-use Rattle.words.specs.Units.{codeBytes}
+use Rattle.words.specs.Units.{code_bytes}
 use Rattle.words.specs.declared.CodeBytes.{CodeBytes}
 use Rattle.words.specs.declared.Refusal.{Refusal}
 use Rattle.words.specs.declared.Refusal.TheVariants.{BadCodes}
@@ -14,7 +14,7 @@ use Rattle.words.specs.Answer.{Res, ok, refuse, ◌>>=◌}
 use Rattle.unwinding.specs.CodeList.{Codes}
 use Rattle.unwinding.specs.Taking.{Scan, follow}
 use Rattle.unwinding.proofs.Scanning.{by-scan}
-use Rattle.codes.specs.Code.{takeAt, seen, scan, codesAt}
+use Rattle.codes.specs.Code.{take_at, seen, scan, codes_at}
 use Rattle.codes.specs.declared.Code.{Code}
 use Rattle.codes.specs.declared.Meaning.{Meaning}
 use Rattle.codes.specs.declared.Meaning.TheVariants.{Does}
@@ -27,7 +27,7 @@ use Rattle.bad_byte.proofs.Codes.{Stands, begins-left, stands, takes_whole, tell
 -- what an answer says of the list at an index
 abbrev Told : {A : Type 0} → (s : List ℕ) (i : ℕ) → Res A → Type 0
 Told s i (ok a) = Reads s i
-Told s i (refuse r) = (j : ℕ) × (r ≡ BadCodes (codeBytes j)) × Bad s i j
+Told s i (refuse r) = (j : ℕ) × (r ≡ BadCodes (code_bytes j)) × Bad s i j
 
 -- a whole code lies within the bytes
 inside : {s : List ℕ} {i : ℕ} {m : Meaning} (w : Whole s i m) → i + asked w.code ≤ length s
@@ -63,47 +63,47 @@ module _ (s : List ℕ) where
 
   -- how the list at an index ends, and the list by its ending
   abbrev ending : ℕ → Res ℕ
-  ending i = (scan s (codeBytes i)).ending
+  ending i = (scan s (code_bytes i)).ending
 
-  abbrev codesBy : ℕ → Res ℕ → Res (Codes Code)
-  codesBy i x = x >>= λ n. ok (record { list = (scan s (codeBytes i)).list; endSize = n })
+  abbrev codes_by : ℕ → Res ℕ → Res (Codes Code)
+  codes_by i x = x >>= λ n. ok (record { list = (scan s (code_bytes i)).list; end_size = n })
 
-  told-codes : (i : ℕ) → Told s i (codesAt s (codeBytes i))
-  told-codes i = go (ending i) (told-scan (codeBytes i))
+  told-codes : (i : ℕ) → Told s i (codes_at s (code_bytes i))
+  told-codes i = go (ending i) (told-scan (code_bytes i))
     where
-      go : (x : Res ℕ) → Told s i x → Told s i (codesBy i x)
+      go : (x : Res ℕ) → Told s i x → Told s i (codes_by i x)
       go (ok n) t = t
       go (refuse r) t = t
 
-  pub list-reads : (i : ℕ) (c : Codes Code) → codesAt s (codeBytes i) ≡ ok c → Reads s i
+  pub list-reads : (i : ℕ) (c : Codes Code) → codes_at s (code_bytes i) ≡ ok c → Reads s i
   list-reads i c e = subst (Told s i) e (told-codes i)
 
-  pub list_tells : (i : ℕ) (r : Refusal) → codesAt s (codeBytes i) ≡ refuse r → (j : ℕ) × (r ≡ BadCodes (codeBytes j)) × Bad s i j
+  pub list_tells : (i : ℕ) (r : Refusal) → codes_at s (code_bytes i) ≡ refuse r → (j : ℕ) × (r ≡ BadCodes (code_bytes j)) × Bad s i j
   list_tells i r e = subst (Told s i) e (told-codes i)
 
   -- ---- and the other way: codes that decode leave the ending to what follows them
-  ending-by : (i : ℕ) {x : Taken} → takeAt s (codeBytes i) ≡ x → ending i ≡ (follow (seen x) (scan s)).ending
-  ending-by i e = ap (λ (x : Scan Code). x.ending) (scan-by s (codeBytes i) e)
+  ending-by : (i : ℕ) {x : Taken} → take_at s (code_bytes i) ≡ x → ending i ≡ (follow (seen x) (scan s)).ending
+  ending-by i e = ap (λ (x : Scan Code). x.ending) (scan-by s (code_bytes i) e)
 
   same-ending : {i k : ℕ} → Decodes s i k → ending i ≡ ending k
   same-ending (Decodes.none i) = refl
   same-ending (Decodes.one i k u c d) = ending-by i (takes_whole s i c) ∙ same-ending d
 
-  bad-ending : {i k : ℕ} (j : ℕ) → Decodes s i k → BadCode s k j → ending i ≡ refuse (BadCodes (codeBytes j))
+  bad-ending : {i k : ℕ} (j : ℕ) → Decodes s i k → BadCode s k j → ending i ≡ refuse (BadCodes (code_bytes j))
   bad-ending {k = k} j d b = same-ending d ∙ ending-by k (tells-code s k j b)
 
-  pub reads-list : (i : ℕ) → Reads s i → (c : Codes Code) × (codesAt s (codeBytes i) ≡ ok c)
-  reads-list i r = (_, ap (codesBy i) (same-ending r.before ∙ ending-by r.at (takes_whole s r.at r.end)))
+  pub reads-list : (i : ℕ) → Reads s i → (c : Codes Code) × (codes_at s (code_bytes i) ≡ ok c)
+  reads-list i r = (_, ap (codes_by i) (same-ending r.before ∙ ending-by r.at (takes_whole s r.at r.end)))
 
-  pub tells-list : (i j : ℕ) → Bad s i j → codesAt s (codeBytes i) ≡ refuse (BadCodes (codeBytes j))
-  tells-list i j (Bad.past h) = ap (codesBy i) (bad-ending i (Decodes.none i) (BadCode.past h))
-  tells-list i j (Bad.undefined k d w) = ap (codesBy i) (bad-ending k d (BadCode.undefined w))
-  tells-list i j (Bad.cut k d c) = ap (codesBy i) (bad-ending (length s) d (BadCode.cut c))
-  tells-list i j (Bad.endless d) = ap (codesBy i) (bad-ending (length s) d (BadCode.past (omega arith)))
+  pub tells-list : (i j : ℕ) → Bad s i j → codes_at s (code_bytes i) ≡ refuse (BadCodes (code_bytes j))
+  tells-list i j (Bad.past h) = ap (codes_by i) (bad-ending i (Decodes.none i) (BadCode.past h))
+  tells-list i j (Bad.undefined k d w) = ap (codes_by i) (bad-ending k d (BadCode.undefined w))
+  tells-list i j (Bad.cut k d c) = ap (codes_by i) (bad-ending (length s) d (BadCode.cut c))
+  tells-list i j (Bad.endless d) = ap (codes_by i) (bad-ending (length s) d (BadCode.past (omega arith)))
 
 -- ---- so it is one byte, and none where the list can be read
 pub bad-once : {s : List ℕ} {i j k : ℕ} → Bad s i j → Bad s i k → j ≡ k
-bad-once {s} {i} {j} {k} a b = let e : codeBytes j ≡ codeBytes k = cc (tells-list s i j a, tells-list s i k b) in ap (λ x. x.0) e
+bad-once {s} {i} {j} {k} a b = let e : code_bytes j ≡ code_bytes k = cc (tells-list s i j a, tells-list s i k b) in ap (λ x. x.0) e
 
 pub bad-unread : {s : List ℕ} {i j : ℕ} → Bad s i j → Reads s i → ⊥
 bad-unread {s} {i} {j} b r = let z : ◌≡◌ {A = ℕ} 0 1 = cc (tells-list s i j b, (reads-list s i r).1) in omega arith

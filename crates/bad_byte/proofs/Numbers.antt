@@ -7,25 +7,25 @@ use mathlib.Core.Bool.{Bool, true, false}
 use lib.Dec.{eqb}
 use native.Mathlib.Omega.{arith}
 use Rattle.words.specs.Bits.{bits}
-use Rattle.words.specs.Units.{codeBytes}
+use Rattle.words.specs.Units.{code_bytes}
 use Rattle.words.specs.Refusals.{number}
 use Rattle.words.specs.declared.CodeBytes.{CodeBytes}
 use Rattle.words.specs.declared.Refusal.{Refusal}
 use Rattle.words.specs.declared.Refusal.TheVariants.{Reserved, OutsideXdata, BadCodes, BadLayout}
 use Rattle.words.specs.Answer.{Res, ok, refuse, ◌>>=◌, ◌>>◌, need, if◌then◌else◌}
-use Rattle.lent.specs.Lent.{Lent, holds, wordAt}
+use Rattle.lent.specs.Lent.{Lent, holds, word_at}
 use Rattle.unwinding.specs.CodeList.{total}
 use Rattle.unwinding.specs.Shape.{Shape}
 use Rattle.unwinding.specs.View.{fits, epilogues, view}
 use Rattle.unwinding.specs.declared.Scope.{Scope}
 use Rattle.unwinding.proofs.Scanning.{by-scan}
-use Rattle.codes.specs.Code.{size, scan, codesAt}
+use Rattle.codes.specs.Code.{size, scan, codes_at}
 use Rattle.codes.proofs.Scanning.{takes}
 use Rattle.packed.specs.Packed.{fields, allowed}
-use Rattle.packed_codes.specs.PackedCodes.{writeCodes}
-use Rattle.xdata.specs.Xdata.{recordBytes, scopeCount, shortHead, longHead, headAt}
-use Rattle.xdata.specs.Scopes.{scopesAt}
-use Rattle.record.specs.Record.{fullShape, packedShape, shape_at}
+use Rattle.packed_codes.specs.PackedCodes.{write_codes}
+use Rattle.xdata.specs.Xdata.{record_bytes, scope_count, short_head, long_head, head_at}
+use Rattle.xdata.specs.Scopes.{scopes_at}
+use Rattle.record.specs.Record.{full_shape, packed_shape, shape_at}
 
 -- the number of a refusal of this answer is one of those
 abbrev pub Only : {A : Type 0} → (ℕ → Type 0) → Res A → Type 0
@@ -50,51 +50,51 @@ module _ (P : ℕ → Type 0) where
   either_way true x y h k = h
   either_way false x y h k = k
 
-  only-long : P 4 → P 5 → (x : Lent) (a w : ℕ) → Only P (longHead x a w)
-  unfolding longHead
-  only-long p4 p5 x a w = needed (holds x a 8) OutsideXdata _ p5 (needed (eqb (bits 24 8 (wordAt x (a + 4))) 0) Reserved _ p4 (given _))
+  only-long : P 4 → P 5 → (x : Lent) (a w : ℕ) → Only P (long_head x a w)
+  unfolding long_head
+  only-long p4 p5 x a w = needed (holds x a 8) OutsideXdata _ p5 (needed (eqb (bits 24 8 (word_at x (a + 4))) 0) Reserved _ p4 (given _))
 
-  pub only-head : P 4 → P 5 → (x : Lent) (a : ℕ) → Only P (headAt x a)
-  unfolding headAt
+  pub only-head : P 4 → P 5 → (x : Lent) (a : ℕ) → Only P (head_at x a)
+  unfolding head_at
   only-head p4 p5 x a =
       needed (holds x a 4) OutsideXdata _ p5
-      (needed (eqb (bits 18 2 (wordAt x a)) 0) Reserved _ p4
-      (bound (if eqb (bits 23 9 (wordAt x a)) 0 then longHead x a (wordAt x a) else ok (shortHead (wordAt x a))) _
-      (either_way (eqb (bits 23 9 (wordAt x a)) 0) (longHead x a (wordAt x a)) (ok (shortHead (wordAt x a))) (only-long p4 p5 x a (wordAt x a)) (given (shortHead (wordAt x a))))
-      (λ h. needed (holds x a (recordBytes h)) OutsideXdata _ p5 (given h))))
+      (needed (eqb (bits 18 2 (word_at x a)) 0) Reserved _ p4
+      (bound (if eqb (bits 23 9 (word_at x a)) 0 then long_head x a (word_at x a) else ok (short_head (word_at x a))) _
+      (either_way (eqb (bits 23 9 (word_at x a)) 0) (long_head x a (word_at x a)) (ok (short_head (word_at x a))) (only-long p4 p5 x a (word_at x a)) (given (short_head (word_at x a))))
+      (λ h. needed (holds x a (record_bytes h)) OutsideXdata _ p5 (given h))))
 
-  only-codes : P 4 → (w : ℕ) → Only P (writeCodes w)
-  unfolding writeCodes
+  only-codes : P 4 → (w : ℕ) → Only P (write_codes w)
+  unfolding write_codes
   only-codes p4 w = needed (allowed (fields w)) Reserved _ p4 (given _)
 
-  only-scopes : P 4 → (x : Lent) (a k : ℕ) → Only P (scopesAt x a k)
-  unfolding scopesAt
+  only-scopes : P 4 → (x : Lent) (a k : ℕ) → Only P (scopes_at x a k)
+  unfolding scopes_at
   only-scopes p4 x a zero = given []
-  only-scopes p4 x a (suc k) = needed (eqb (bits 18 2 (wordAt x a)) 0) Reserved _ p4 (bound (scopesAt x (a + 4) k) _ (only-scopes p4 x (a + 4) k) (λ l. given _))
+  only-scopes p4 x a (suc k) = needed (eqb (bits 18 2 (word_at x a)) 0) Reserved _ p4 (bound (scopes_at x (a + 4) k) _ (only-scopes p4 x (a + 4) k) (λ l. given _))
 
   pub only-shape : P 4 → P 5 → (x : Lent) (w : ℕ) → Only P (shape_at x w)
-  unfolding fullShape packedShape
+  unfolding full_shape packed_shape
   only-shape p4 p5 x w =
-      either_way (eqb (bits 0 2 w) 0) (fullShape x w) (packedShape w)
-      (bound (headAt x w) _ (only-head p4 p5 x w) (λ h. bound (scopesAt x (w + h.bytes) (scopeCount h)) _ (only-scopes p4 x (w + h.bytes) (scopeCount h)) (λ l. given _)))
-      (bound (writeCodes w) _ (only-codes p4 w) (λ c. given _))
+      either_way (eqb (bits 0 2 w) 0) (full_shape x w) (packed_shape w)
+      (bound (head_at x w) _ (only-head p4 p5 x w) (λ h. bound (scopes_at x (w + h.bytes) (scope_count h)) _ (only-scopes p4 x (w + h.bytes) (scope_count h)) (λ l. given _)))
+      (bound (write_codes w) _ (only-codes p4 w) (λ c. given _))
 
   only-scan : P 6 → (s : List ℕ) (i : CodeBytes) → Only P (scan s i).ending
   only-scan p6 s i = by-scan takes s (λ j x. Only P x.ending) (λ j c next r e h. h) (λ j n e. given n) (λ j k e. refused (BadCodes k) p6) i
 
-  only-list : P 6 → (s : List ℕ) (i : CodeBytes) → Only P (codesAt s i)
+  only-list : P 6 → (s : List ℕ) (i : CodeBytes) → Only P (codes_at s i)
   only-list p6 s i = bound (scan s i).ending _ (only-scan p6 s i) (λ k. given _)
 
-  only-epilogues : P 6 → (s : Shape) (l : List Scope) → Only P (epilogues size codesAt s l)
+  only-epilogues : P 6 → (s : Shape) (l : List Scope) → Only P (epilogues size codes_at s l)
   unfolding epilogues
   only-epilogues p6 s [] = given []
-  only-epilogues p6 s (e ∷ l) = bound (codesAt s.codes e.index) _ (only-list p6 s.codes e.index) (λ c. bound (epilogues size codesAt s l) _ (only-epilogues p6 s l) (λ rest. given _))
+  only-epilogues p6 s (e ∷ l) = bound (codes_at s.codes e.index) _ (only-list p6 s.codes e.index) (λ c. bound (epilogues size codes_at s l) _ (only-epilogues p6 s l) (λ rest. given _))
 
-  pub only-view : P 6 → P 7 → (s : Shape) → Only P (view size codesAt s)
+  pub only-view : P 6 → P 7 → (s : Shape) → Only P (view size codes_at s)
   unfolding view
   only-view p6 p7 s =
-      bound (codesAt s.codes (codeBytes 0)) _ (only-list p6 s.codes (codeBytes 0))
-      (λ c. bound (epilogues size codesAt s s.scopes) _ (only-epilogues p6 s s.scopes) (λ es. needed (fits s.span (if s.fragment then 0 else total size c.list) es) BadLayout _ p7 (given _)))
+      bound (codes_at s.codes (code_bytes 0)) _ (only-list p6 s.codes (code_bytes 0))
+      (λ c. bound (epilogues size codes_at s s.scopes) _ (only-epilogues p6 s s.scopes) (λ es. needed (fits s.span (if s.fragment then 0 else total size c.list) es) BadLayout _ p7 (given _)))
 
 -- what refuses with 6 stands behind all that does not
 abbrev pub Other : ℕ → Type 0

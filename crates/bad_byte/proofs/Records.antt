@@ -6,7 +6,7 @@ use mathlib.Core.Path.{◌≡◌, refl, ap, subst, ◌∙◌}
 use mathlib.Core.Bool.{Bool, true, false}
 use mathlib.Core.List.{List, [], ◌∷◌, map}
 use native.Mathlib.Omega.{arith}
-use Rattle.words.specs.Units.{codeBytes}
+use Rattle.words.specs.Units.{code_bytes}
 use Rattle.words.specs.Refusals.{number}
 use Rattle.words.specs.declared.CodeBytes.{CodeBytes}
 use Rattle.words.specs.declared.Refusal.{Refusal}
@@ -16,7 +16,7 @@ use Rattle.unwinding.specs.CodeList.{Codes, total}
 use Rattle.unwinding.specs.Shape.{Shape}
 use Rattle.unwinding.specs.View.{EpilogueOf, View, fits, epilogues, view}
 use Rattle.unwinding.specs.declared.Scope.{Scope}
-use Rattle.codes.specs.Code.{size, codesAt}
+use Rattle.codes.specs.Code.{size, codes_at}
 use Rattle.codes.specs.declared.Code.{Code}
 use Rattle.bad_byte.specs.Lists.{Reads, Bad}
 use Rattle.bad_byte.specs.Records.{indices, AllRead, FirstOf, here, later, FirstBad}
@@ -25,9 +25,9 @@ use Rattle.bad_byte.proofs.Lists.{list-reads, list_tells, reads-list, tells-list
 module _ (s : List ℕ) where
   -- a list can be read or not, and so can lists
   reads-or : (i : ℕ) → Reads s i ⊎ ((j : ℕ) × Bad s i j)
-  reads-or i = go (codesAt s (codeBytes i)) refl
+  reads-or i = go (codes_at s (code_bytes i)) refl
     where
-      go : (x : Res (Codes Code)) → codesAt s (codeBytes i) ≡ x → Reads s i ⊎ ((j : ℕ) × Bad s i j)
+      go : (x : Res (Codes Code)) → codes_at s (code_bytes i) ≡ x → Reads s i ⊎ ((j : ℕ) × Bad s i j)
       go (ok c) e = inl (list-reads s i c e)
       go (refuse r) e = let t = list_tells s i r e in inr (t.0, t.2)
 
@@ -67,24 +67,24 @@ module _ (sh : Shape) where
   abbrev at : List Scope → List ℕ
   at es = map (λ (e : Scope). e.index.0) es
 
-  epilogues-tell : (j : ℕ) (es : List Scope) → FirstOf sh.codes (at es) j → epilogues size codesAt sh es ≡ refuse (BadCodes (codeBytes j))
+  epilogues-tell : (j : ℕ) (es : List Scope) → FirstOf sh.codes (at es) j → epilogues size codes_at sh es ≡ refuse (BadCodes (code_bytes j))
   unfolding epilogues
   epilogues-tell j (e ∷ es) (here b) = rw (tells-list sh.codes e.index.0 j b) refl
   epilogues-tell j (e ∷ es) (later r f) =
       rw ((reads-list sh.codes e.index.0 r).1, epilogues-tell j es f) refl
 
-  epilogues-read : (es : List Scope) → AllRead sh.codes (at es) → (l : List (EpilogueOf Code)) × (epilogues size codesAt sh es ≡ ok l)
+  epilogues-read : (es : List Scope) → AllRead sh.codes (at es) → (l : List (EpilogueOf Code)) × (epilogues size codes_at sh es ≡ ok l)
   unfolding epilogues
   epilogues-read [] a = ([], refl)
   epilogues-read (e ∷ es) a = (_, goes_on _ (reads-list sh.codes e.index.0 a.0).1 ∙ goes_on _ (epilogues-read es a.1).1)
 
-  pub tells-record : (j : ℕ) → FirstBad sh j → view size codesAt sh ≡ refuse (BadCodes (codeBytes j))
+  pub tells-record : (j : ℕ) → FirstBad sh j → view size codes_at sh ≡ refuse (BadCodes (code_bytes j))
   unfolding view
   tells-record j (here b) = rw (tells-list sh.codes 0 j b) refl
   tells-record j (later r f) = rw ((reads-list sh.codes 0 r).1, epilogues-tell j sh.scopes f) refl
 
   -- once all lists are read, only the layout is left
-  layout-left : AllRead sh.codes (indices sh) → (r : Refusal) → view size codesAt sh ≡ refuse r → r ≡ BadLayout
+  layout-left : AllRead sh.codes (indices sh) → (r : Refusal) → view size codes_at sh ≡ refuse r → r ≡ BadLayout
   unfolding view
   layout-left a r h =
       let c = reads-list sh.codes 0 a.0 in
@@ -97,17 +97,17 @@ module _ (sh : Shape) where
       go false v q = cc
 
   pub record-tells :
-      (r : Refusal) → view size codesAt sh ≡ refuse r
-      → (r ≡ BadLayout) ⊎ ((j : ℕ) × (r ≡ BadCodes (codeBytes j)) × FirstBad sh j)
+      (r : Refusal) → view size codes_at sh ≡ refuse r
+      → (r ≡ BadLayout) ⊎ ((j : ℕ) × (r ≡ BadCodes (code_bytes j)) × FirstBad sh j)
   record-tells r h =
       ⊎_elim (λ a. inl (layout-left a r h))
-      (λ f. let e : r ≡ BadCodes (codeBytes f.0) = cc (tells-record f.0 f.1) in inr (f.0, e, f.1))
+      (λ f. let e : r ≡ BadCodes (code_bytes f.0) = cc (tells-record f.0 f.1) in inr (f.0, e, f.1))
       (reads-or-bad sh)
 
   -- so what is told is told of the first
-  pub first-told : (j : ℕ) → view size codesAt sh ≡ refuse (BadCodes (codeBytes j)) → FirstBad sh j
-  first-told j h = go (record-tells (BadCodes (codeBytes j)) h)
+  pub first-told : (j : ℕ) → view size codes_at sh ≡ refuse (BadCodes (code_bytes j)) → FirstBad sh j
+  first-told j h = go (record-tells (BadCodes (code_bytes j)) h)
     where
-      go : (BadCodes (codeBytes j) ≡ BadLayout) ⊎ ((k : ℕ) × (BadCodes (codeBytes j) ≡ BadCodes (codeBytes k)) × FirstBad sh k) → FirstBad sh j
+      go : (BadCodes (code_bytes j) ≡ BadLayout) ⊎ ((k : ℕ) × (BadCodes (code_bytes j) ≡ BadCodes (code_bytes k)) × FirstBad sh k) → FirstBad sh j
       go (inl e) = absurd (let z : ◌≡◌ {A = ℕ} 6 7 = ap number e in omega (arith, z))
-      go (inr w) = let z : codeBytes w.0 ≡ codeBytes j = cc w.1 in subst (λ (i : CodeBytes). FirstBad sh i.0) z w.2
+      go (inr w) = let z : code_bytes w.0 ≡ code_bytes j = cc w.1 in subst (λ (i : CodeBytes). FirstBad sh i.0) z w.2

@@ -1,7 +1,7 @@
 -- Code bytes from which no list can be read, and the code byte that refusal 6 then tells (RULES 3.8): said by what stands there, without any
 -- way of reading.
 use Rattle.std.specs.Prelude.{ℕ, ◌+◌, ◌≤◌, ◌<◌, ◌≡◌, List, ◌∷◌, length, take, drop}
-use Rattle.codes.specs.Table.{rowOf}
+use Rattle.codes.specs.Table.{row_of}
 use Rattle.codes.specs.Code.{value}
 use Rattle.codes.specs.declared.Meaning.{Meaning}
 use Rattle.codes.specs.declared.Meaning.TheVariants.{Does, End, Undefined}
@@ -15,7 +15,7 @@ pub record Begins (s : List ℕ) (i : ℕ) : Type 0 where
 
 -- the bytes that its row asks for, and those that are left
 abbrev pub asked : {s : List ℕ} {i : ℕ} → Begins s i → ℕ
-asked b = (rowOf b.first).bytes
+asked b = (row_of b.first).bytes
 
 abbrev pub left : {s : List ℕ} {i : ℕ} → Begins s i → ℕ
 left b = length (b.first ∷ b.behind)
@@ -24,7 +24,7 @@ left b = length (b.first ∷ b.behind)
 pub record Whole (s : List ℕ) (i : ℕ) (m : Meaning) : Type 0 where
   pub code : Begins s i
   pub there : asked code ≤ left code
-  pub means : (rowOf code.first).means (value (take (asked code) (code.first ∷ code.behind)) 0) ≡ m
+  pub means : (row_of code.first).means (value (take (asked code) (code.first ∷ code.behind)) 0) ≡ m
 
 -- a code that lacks bytes
 pub record CutShort (s : List ℕ) (i : ℕ) : Type 0 where

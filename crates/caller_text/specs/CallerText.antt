@@ -22,38 +22,38 @@ use Rattle.frame.specs.Frame.{frame, unwound}
 use Rattle.frame.specs.declared.Unwound.{Unwound}
 use Rattle.report.specs.Report.{report}
 use Rattle.text.specs.Text.{text, decimal, hex8, hex16, numbered}
-use Rattle.listing.specs.Listing.{placeName, refusedText}
+use Rattle.listing.specs.Listing.{place_name, refused_text}
 
 -- a register's line: its name, and its value in 8 or 16 hex digits
 abbrev pub word_line : (name : List ℕ) → ℕ → List ℕ
 word_line name v = name ++ text " " ++ hex8 v ++ text "\n"
 
-abbrev pub doubleLine : (name : List ℕ) → ℕ → List ℕ
-doubleLine name v = name ++ text " " ++ hex16 v ++ text "\n"
+abbrev pub double_line : (name : List ℕ) → ℕ → List ℕ
+double_line name v = name ++ text " " ++ hex16 v ++ text "\n"
 
-abbrev pub rLine : List ℕ → ℕ → List ℕ
-rLine r k = word_line (text "r" ++ decimal k) (get_or r k 0)
+abbrev pub r_line : List ℕ → ℕ → List ℕ
+r_line r k = word_line (text "r" ++ decimal k) (get_or r k 0)
 
-abbrev pub dLine : List ℕ → ℕ → List ℕ
-dLine d k = doubleLine (text "d" ++ decimal k) (get_or d k 0)
+abbrev pub d_line : List ℕ → ℕ → List ℕ
+d_line d k = double_line (text "d" ++ decimal k) (get_or d k 0)
 
 -- r0 to r12, sp, lr, pc, d0 to d31
-unfoldable pub regsText : Regs → List ℕ
-regsText g =
-    numbered (rLine g.r) 0 13 ++ word_line (text "sp") g.sp ++ word_line (text "lr") g.lr ++ word_line (text "pc") g.pc ++ numbered (dLine g.d) 0 32
+unfoldable pub regs_text : Regs → List ℕ
+regs_text g =
+    numbered (r_line g.r) 0 13 ++ word_line (text "sp") g.sp ++ word_line (text "lr") g.lr ++ word_line (text "pc") g.pc ++ numbered (d_line g.d) 0 32
 
 -- the first line, without its end
-abbrev pub givenText : Place → (handler codes : ℕ) → List ℕ
-givenText p h n = text "caller place " ++ text (placeName p) ++ text " handler " ++ hex8 h ++ text " codes " ++ decimal n
+abbrev pub given_text : Place → (handler codes : ℕ) → List ℕ
+given_text p h n = text "caller place " ++ text (place_name p) ++ text " handler " ++ hex8 h ++ text " codes " ++ decimal n
 
-abbrev pub verdictText : Unwound → Verdict → List ℕ
-verdictText u Given = givenText u.place u.handler u.codes
-verdictText u (Refused r) = refusedText r
+abbrev pub verdict_text : Unwound → Verdict → List ℕ
+verdict_text u Given = given_text u.place u.handler u.codes
+verdict_text u (Refused r) = refused_text r
 
-unfoldable pub unwoundText : Unwound → List ℕ
-unwoundText u = verdictText u u.verdict ++ text "\n" ++ regsText u.regs
+unfoldable pub unwound_text : Unwound → List ℕ
+unwound_text u = verdict_text u u.verdict ++ text "\n" ++ regs_text u.regs
 
 -- a report's bytes in, the text out
-unfoldable pub callerText : List ℕ → List ℕ
-callerText s =
-    either (report s) (λ r. refusedText r ++ text "\n") (λ p. unwoundText (unwound p.regs (frame p.inputs p.regs)))
+unfoldable pub caller_text : List ℕ → List ℕ
+caller_text s =
+    either (report s) (λ r. refused_text r ++ text "\n") (λ p. unwound_text (unwound p.regs (frame p.inputs p.regs)))

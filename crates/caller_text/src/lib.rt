@@ -3,8 +3,8 @@ ghost use Rattle.std.specs.Prelude.{◌++◌, ◌≡◌, ◌≤◌, length};
 ghost use Rattle.frame.specs.Frame.{frame, unwound};
 ghost use Rattle.text.specs.Text.{text, decimal, numbered};
 ghost use Rattle.text.specs.Overlay.{overlay, Laid};
-ghost use Rattle.report.specs.as_coded.Parts.{inputsIn, Lie};
-ghost use Rattle.caller_text.specs.CallerText.{word_line, doubleLine, rLine, dLine, regsText, givenText, verdictText, unwoundText, callerText};
+ghost use Rattle.report.specs.AsCoded.Parts.{inputs_in, Lie};
+ghost use Rattle.caller_text.specs.CallerText.{word_line, double_line, r_line, d_line, regs_text, given_text, verdict_text, unwound_text, caller_text as spec_caller_text};
 
 use frame::Unwound;
 use listing::{put_place, put_refusal, put_refused};
@@ -37,7 +37,7 @@ fn put_integer(out: &mut [u8], at: usize, number: usize, value: u32) -> usize
 }
 
 fn put_double(out: &mut [u8], at: usize, number: usize, value: u64) -> usize
-    ensures { Laid out.old at (doubleLine (text "d" ++ decimal number) value) result out.new }
+    ensures { Laid out.old at (double_line (text "d" ++ decimal number) value) result out.new }
 {
     let next = put_count(out, at, b"d", number as u64);
     let next = put_byte(out, next, b' ');
@@ -47,7 +47,7 @@ fn put_double(out: &mut [u8], at: usize, number: usize, value: u64) -> usize
 
 // r0-r12.
 fn put_integers(out: &mut [u8], at: usize, r: [u32; 13]) -> usize
-    ensures { Laid out.old at (numbered (rLine r) 0 13) result out.new }
+    ensures { Laid out.old at (numbered (r_line r) 0 13) result out.new }
 {
     let mut next = at;
     let mut i = 0;
@@ -61,7 +61,7 @@ fn put_integers(out: &mut [u8], at: usize, r: [u32; 13]) -> usize
 
 // d0-d31.
 fn put_doubles(out: &mut [u8], at: usize, d: [u64; 32]) -> usize
-    ensures { Laid out.old at (numbered (dLine d) 0 32) result out.new }
+    ensures { Laid out.old at (numbered (d_line d) 0 32) result out.new }
 {
     let mut next = at;
     let mut i = 0;
@@ -75,7 +75,7 @@ fn put_doubles(out: &mut [u8], at: usize, d: [u64; 32]) -> usize
 
 // Every register.
 fn put_registers(out: &mut [u8], at: usize, regs: Regs) -> usize
-    ensures { Laid out.old at (regsText regs) result out.new }
+    ensures { Laid out.old at (regs_text regs) result out.new }
 {
     let r = regs.r;
     let d = regs.d;
@@ -88,7 +88,7 @@ fn put_registers(out: &mut [u8], at: usize, regs: Regs) -> usize
 
 // The first line of a frame that unwound.
 fn put_given(out: &mut [u8], place: Place, handler: u32, codes: usize) -> usize
-    ensures { Laid out.old 0 (givenText place handler codes) result out.new }
+    ensures { Laid out.old 0 (given_text place handler codes) result out.new }
 {
     let next = put_text(out, 0, b"caller place ");
     let next = put_place(out, next, place, b' ');
@@ -99,7 +99,7 @@ fn put_given(out: &mut [u8], place: Place, handler: u32, codes: usize) -> usize
 
 // The first line, without its end.
 fn put_verdict(out: &mut [u8], answer: Unwound) -> usize
-    ensures { Laid out.old 0 (verdictText answer answer.verdict) result out.new }
+    ensures { Laid out.old 0 (verdict_text answer answer.verdict) result out.new }
 {
     let verdict = answer.verdict;
     let place = answer.place;
@@ -111,7 +111,7 @@ fn put_verdict(out: &mut [u8], answer: Unwound) -> usize
 
 // One frame's answer.
 fn put_unwound(out: &mut [u8], answer: Unwound) -> usize
-    ensures { Laid out.old 0 (unwoundText answer) result out.new }
+    ensures { Laid out.old 0 (unwound_text answer) result out.new }
 {
     let regs = answer.regs;
     let next = put_verdict(out, answer);
@@ -122,7 +122,7 @@ fn put_unwound(out: &mut [u8], answer: Unwound) -> usize
 // One frame of a report's parts.
 fn show_parts(file: &[u8], p: Parts, out: &mut [u8]) -> usize
     requires { Lie file.now p }
-    ensures { Laid out.old 0 (unwoundText (unwound p.regs (frame (inputsIn file.now p) p.regs))) result out.new }
+    ensures { Laid out.old 0 (unwound_text (unwound p.regs (frame (inputs_in file.now p) p.regs))) result out.new }
 {
     let pdata = p.pdata;
     let xdata = p.xdata;
@@ -143,7 +143,7 @@ fn show_parts(file: &[u8], p: Parts, out: &mut [u8]) -> usize
 
 // The caller of a report's frame, of which no more than CALLER_BYTES are ever needed.
 pub fn show_caller(file: &[u8], out: &mut [u8]) -> usize
-    ensures value { (result ≡ length (callerText file.now)) × (out.new ≡ overlay out.old 0 (callerText file.now)) }
+    ensures value { (result ≡ length (spec_caller_text file.now)) × (out.new ≡ overlay out.old 0 (spec_caller_text file.now)) }
     ensures upper_bound { result ≤ 1024 }
 {
     let p = read_report(file);

@@ -8,7 +8,7 @@ use Prim.Native.Nat.{ℕ, zero, suc, ◌+◌, ◌-◌, ◌≤◌, ◌<◌}
 use native.Mathlib.Nat.{add-zero, zero-add, add-suc, suc-add, le_of_suc-le-suc, not-suc-le-zero}
 use native.Mathlib.Omega.{arith}
 use lib.ListN.{get_or}
-pub use Rattle.codes.specs.as_coded.Rows.{tab}
+pub use Rattle.codes.specs.AsCoded.Rows.{tab}
 
 module _ {A : Type 0} where
   -- n times x

@@ -10,7 +10,7 @@ use borrow.Author.Tests.{le-leb, eqb-true, eqb-false, ne_eqb}
 use Rattle.words.specs.Bits.{bits, bit}
 use Rattle.words.specs.Answer.{if◌then◌else◌}
 use Rattle.words.proofs.Powers.{below}
-use Rattle.codes.specs.Table.{range, fromR4, lrIf}
+use Rattle.codes.specs.Table.{range, from_r4, lr_if}
 
 module _ (a b : ℕ) where
   -- r0 to r12 are thirteen bits
@@ -29,7 +29,7 @@ module _ (a b : ℕ) where
       go false = refl
 
 module _ (x : ℕ) (h : 4 ≤ x) (k : x ≤ 11) where
-  pub from-r4 : range 4 x ≡ fromR4 x
+  pub from-r4 : range 4 x ≡ from_r4 x
   from-r4 = rw (le-leb 4 x h, le-leb x 11 k) refl
 
   -- r4 to r11 are twelve bits
@@ -55,29 +55,29 @@ module _ (l : ℕ) (h : l < 8192) where
   pub bare-lr : bits 14 1 l ≡ 0
   bare-lr = omega arith
 
-  pub joined-others : (b : ℕ) → bits 0 13 (l + lrIf b) ≡ l
+  pub joined-others : (b : ℕ) → bits 0 13 (l + lr_if b) ≡ l
   joined-others b = omega arith
 
-  joined-lr : (b : ℕ) → b < 2 → bits 14 1 (l + lrIf b) ≡ b
+  joined-lr : (b : ℕ) → b < 2 → bits 14 1 (l + lr_if b) ≡ b
   joined-lr b k = omega arith
 
 -- a list of r0-r12 and LR: of 16 bits, those of SP and PC clear
 abbrev pub RegisterList : ℕ → Type 0
-RegisterList l = l ≡ bits 0 13 l + lrIf (bits 14 1 l)
+RegisterList l = l ≡ bits 0 13 l + lr_if (bits 14 1 l)
 
 -- LR's bit is the one that a list is made with
-module _ (list b : ℕ) (made : list ≡ bits 0 13 list + lrIf b) (k : b < 2) where
+module _ (list b : ℕ) (made : list ≡ bits 0 13 list + lr_if b) (k : b < 2) where
   pub made-lr : bits 14 1 list ≡ b
   made-lr = ap (bits 14 1) made ∙ joined-lr (bits 0 13 list) (below list 0 13) b k
 
   pub made_list : RegisterList list
-  made_list = made ∙ ap (λ i. bits 0 13 list + lrIf i) (sym made-lr)
+  made_list = made ∙ ap (λ i. bits 0 13 list + lr_if i) (sym made-lr)
 
 -- a list to which LR is added by a bit of a code
-pub joined-list : (l : ℕ) → l < 8192 → (k v : ℕ) → RegisterList (l + lrIf (bits k 1 v))
+pub joined-list : (l : ℕ) → l < 8192 → (k v : ℕ) → RegisterList (l + lr_if (bits k 1 v))
 joined-list l h k v =
     let b : ℕ = bits k 1 v in
-    made_list (l + lrIf b) b (ap (λ i. i + lrIf b) (sym (joined-others l h b))) (below v k 1)
+    made_list (l + lr_if b) b (ap (λ i. i + lr_if b) (sym (joined-others l h b))) (below v k 1)
 
 module _ (l : ℕ) (h : RegisterList l) where
   pub list-small : l < 2 ^ 15
@@ -86,5 +86,5 @@ module _ (l : ℕ) (h : RegisterList l) where
   pub list-no-sp : bit 13 l ≡ false
   list-no-sp = ap (bit 13) h ∙ no-13 (bits 0 13 l) (bits 14 1 l) (below l 0 13)
     where
-      no-13 : (x y : ℕ) → x < 2 ^ 13 → bit 13 (x + lrIf y) ≡ false
-      no-13 x y k = ne_eqb (bits 13 1 (x + lrIf y)) 1 (λ (q : bits 13 1 (x + lrIf y) ≡ 1). omega arith)
+      no-13 : (x y : ℕ) → x < 2 ^ 13 → bit 13 (x + lr_if y) ≡ false
+      no-13 x y k = ne_eqb (bits 13 1 (x + lr_if y)) 1 (λ (q : bits 13 1 (x + lr_if y) ≡ 1). omega arith)

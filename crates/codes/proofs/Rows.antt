@@ -9,7 +9,7 @@ use lib.Dec.{T, leb, leb→le}
 use borrow.Author.Tests.{leb-true}
 use Rattle.words.specs.Answer.{if◌then◌else◌}
 use Rattle.words.proofs.Tests.{T-both as both}
-use Rattle.codes.specs.Table.{Row, row, rows, row_in, rowOf, none}
+use Rattle.codes.specs.Table.{Row, row, rows, row_in, row_of, none}
 use Rattle.codes.specs.declared.Undo.{Undo}
 use Rattle.codes.specs.declared.Meaning.{Meaning}
 use Rattle.codes.specs.declared.Meaning.TheVariants.{Does, End, Undefined}
@@ -37,13 +37,13 @@ pub record Few (r : Row) : Type 0 where
   pub most : r.bytes ≤ 4
   pub small : r.size.0 ≤ 2
 
-few-rows : (b : ℕ) → T (few (rowOf b))
+few-rows : (b : ℕ) → T (few (row_of b))
 unfolding rows
 few-rows b = in_all few rows b tt
 
-pub row-few : (b : ℕ) → Few (rowOf b)
+pub row-few : (b : ℕ) → Few (row_of b)
 row-few b =
-    let r = rowOf b in
+    let r = row_of b in
     let w = both (leb 1 r.bytes && leb r.bytes 4) (leb r.size.0 2) (few-rows b) in
     let v = both (leb 1 r.bytes) (leb r.bytes 4) w.0 in
     record { some = leb→le _ _ v.0; most = leb→le _ _ v.1; small = leb→le _ _ w.1 }
@@ -54,13 +54,13 @@ idle (Does u) = false
 idle End = true
 idle Undefined = true
 
-sized_rows : (b v : ℕ) → T (leb 1 (rowOf b).size.0 || idle ((rowOf b).means v))
+sized_rows : (b v : ℕ) → T (leb 1 (row_of b).size.0 || idle ((row_of b).means v))
 unfolding rows
 sized_rows b v = in_all (λ r. leb 1 r.size.0 || idle (r.means v)) rows b tt
 
-pub row_sized : (b v : ℕ) (u : Undo) → (rowOf b).means v ≡ Does u → 1 ≤ (rowOf b).size.0
-row_sized b v u e = go (leb 1 (rowOf b).size.0) refl (rw e at (sized_rows b v))
+pub row_sized : (b v : ℕ) (u : Undo) → (row_of b).means v ≡ Does u → 1 ≤ (row_of b).size.0
+row_sized b v u e = go (leb 1 (row_of b).size.0) refl (rw e at (sized_rows b v))
   where
-    go : (t : Bool) → leb 1 (rowOf b).size.0 ≡ t → T (t || false) → 1 ≤ (rowOf b).size.0
+    go : (t : Bool) → leb 1 (row_of b).size.0 ≡ t → T (t || false) → 1 ≤ (row_of b).size.0
     go true p h = leb-true _ _ p
     go false p h = absurd h

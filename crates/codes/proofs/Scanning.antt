@@ -8,13 +8,13 @@ use lib.ListN.{length, take, drop, get_or, length-drop}
 use lib.Dec.{leb}
 use native.Mathlib.Omega.{arith}
 use borrow.Author.Tests.{leb-true}
-use Rattle.words.specs.Units.{codeBytes, halfwordBytes}
+use Rattle.words.specs.Units.{code_bytes, halfword_bytes}
 use Rattle.words.specs.declared.CodeBytes.{CodeBytes}
 use Rattle.words.specs.Answer.{if◌then◌else◌}
 use Rattle.unwinding.specs.Taking.{Taken as AnyTaken, one, last, bad, follow}
 use Rattle.unwinding.proofs.Scanning.{Takes, scan_step}
-use Rattle.codes.specs.Table.{Row, rowOf}
-use Rattle.codes.specs.Code.{value, taken, takeFrom, takeAt, seen, taking, bytes_of, scan, halves}
+use Rattle.codes.specs.Table.{Row, row_of}
+use Rattle.codes.specs.Code.{value, taken, take_from, take_at, seen, taking, bytes_of, scan, halves}
 use Rattle.codes.specs.declared.Code.{Code}
 use Rattle.codes.specs.declared.Meaning.{Meaning}
 use Rattle.codes.specs.declared.Meaning.TheVariants.{Does, End, Undefined}
@@ -24,7 +24,7 @@ use Rattle.codes.proofs.Rows.{row-few, row_sized}
 
 -- the row of the first byte, and the value of the code's bytes
 abbrev row_at : List ℕ → Row
-row_at left = rowOf (get_or left 0 0)
+row_at left = row_of (get_or left 0 0)
 
 abbrev value_at : List ℕ → ℕ
 value_at left = value (take (row_at left).bytes left) 0
@@ -32,42 +32,42 @@ value_at left = value (take (row_at left).bytes left) 0
 pub record FromRow (i : ℕ) (left : List ℕ) (c : Code) (next : CodeBytes) : Type 0 where
   pub means : (row_at left).means (value_at left) ≡ Does c.undo
   pub size : c.size ≡ (row_at left).size
-  pub behind : next ≡ codeBytes (i + (row_at left).bytes)
+  pub behind : next ≡ code_bytes (i + (row_at left).bytes)
   pub there : (row_at left).bytes ≤ length left
 
 module _ (i : ℕ) where
   abbrev Whence : List ℕ → AnyTaken Code → Type 0
   Whence left (one c next) = FromRow i left c next
-  Whence left (last n) = (n ≡ halfwordBytes (row_at left).size) × (0 < length left)
+  Whence left (last n) = (n ≡ halfword_bytes (row_at left).size) × (0 < length left)
   Whence left (bad j) = Unit {0}
 
   whence : (left : List ℕ) → Whence left (taking i left)
-  unfolding takeFrom
+  unfolding take_from
   whence [] = tt
-  whence (b ∷ s) = go (leb (rowOf b).bytes (length (b ∷ s))) refl
+  whence (b ∷ s) = go (leb (row_of b).bytes (length (b ∷ s))) refl
     where
       m : Meaning
-      m = (rowOf b).means (value_at (b ∷ s))
+      m = (row_of b).means (value_at (b ∷ s))
 
-      by-meaning : (x : Meaning) → m ≡ x → (rowOf b).bytes ≤ length (b ∷ s) → Whence (b ∷ s) (seen (taken i (rowOf b) x))
+      by-meaning : (x : Meaning) → m ≡ x → (row_of b).bytes ≤ length (b ∷ s) → Whence (b ∷ s) (seen (taken i (row_of b) x))
       by-meaning (Does u) e l = record { means = e; size = refl; behind = refl; there = l }
       by-meaning End e l = (refl, omega arith)
       by-meaning Undefined e l = tt
 
       go :
-          (x : Bool) → leb (rowOf b).bytes (length (b ∷ s)) ≡ x
-          → Whence (b ∷ s) (seen (if x then taken i (rowOf b) m else Bad (codeBytes (i + length (b ∷ s)))))
+          (x : Bool) → leb (row_of b).bytes (length (b ∷ s)) ≡ x
+          → Whence (b ∷ s) (seen (if x then taken i (row_of b) m else Bad (code_bytes (i + length (b ∷ s)))))
       go true e = by-meaning m refl (leb-true _ _ e)
       go false e = tt
 
   pub took : (left : List ℕ) {c : Code} {next : CodeBytes} → taking i left ≡ one c next → FromRow i left c next
   took left e = subst (Whence left) e (whence left)
 
-  took-last : (left : List ℕ) {n : ℕ} → taking i left ≡ last n → (n ≡ halfwordBytes (row_at left).size) × (0 < length left)
+  took-last : (left : List ℕ) {n : ℕ} → taking i left ≡ last n → (n ≡ halfword_bytes (row_at left).size) × (0 < length left)
   took-last left e = subst (Whence left) e (whence left)
 
 pub takes : Takes taking bytes_of
-unfolding takeFrom
+unfolding take_from
 takes = record {
   empty = λ at. refl;
   code = λ at b s c next e. let w = took at (b ∷ s) e in record { behind = w.behind; some = (row-few b).some; there = w.there };
@@ -86,5 +86,5 @@ take_last s i e =
     ((row_at (drop i s)).size.0, w.0, (row-few (get_or (drop i s) 0 0)).small, omega (arith, w.1, length-drop i s))
 
 -- one code, and then the rest, by what stands there
-pub scan-by : (s : List ℕ) (i : CodeBytes) {x : Taken} → takeAt s i ≡ x → scan s i ≡ follow (seen x) (scan s)
+pub scan-by : (s : List ℕ) (i : CodeBytes) {x : Taken} → take_at s i ≡ x → scan s i ≡ follow (seen x) (scan s)
 scan-by s i e = scan_step takes s i.0 ∙ ap (λ x. follow (seen x) (scan s)) e

@@ -7,14 +7,14 @@ use mathlib.Core.Bool.{true, false}
 use lib.ListN.{length, get_or}
 use native.Mathlib.Omega.{arith}
 use Rattle.words.specs.Answer.{if◌then◌else◌}
-use Rattle.words.specs.Units.{codeBytes, halfwords, halfwordBytes}
+use Rattle.words.specs.Units.{code_bytes, halfwords, halfword_bytes}
 use Rattle.words.specs.declared.CodeBytes.{CodeBytes}
 use Rattle.words.specs.declared.Halfwords.{Halfwords}
 use Rattle.unwinding.specs.Taking.{one, last, bad}
-use Rattle.codes.specs.Table.{Row, rowOf}
-use Rattle.codes.specs.Code.{taken, takeAt, seen}
-use Rattle.codes.specs.as_coded.Rows.{kind, sortOf, entry_of}
-use Rattle.codes.specs.as_coded.Sizing.{sized, fitting}
+use Rattle.codes.specs.Table.{Row, row_of}
+use Rattle.codes.specs.Code.{taken, take_at, seen}
+use Rattle.codes.specs.AsCoded.Rows.{kind, sort_of, entry_of}
+use Rattle.codes.specs.AsCoded.Sizing.{sized, fitting}
 use Rattle.codes.specs.declared.Meaning.{Meaning}
 use Rattle.codes.specs.declared.Meaning.TheVariants.{Does, End, Undefined}
 use Rattle.codes.specs.declared.Code.{Code}
@@ -30,7 +30,7 @@ use Rattle.codes.proofs.Values.{bytes, bytes_one, bytes-more}
 -- the code by its meaning's kind
 module _ (i : ℕ) (r : Row) where
   abbrev passed : Sized
-  passed = One r.size (codeBytes (i + r.bytes))
+  passed = One r.size (code_bytes (i + r.bytes))
 
   kind_0 : (m : Meaning) → kind m ≡ 0 → passed ≡ sized (taken i r m)
   kind_0 (Does u) e = refl
@@ -42,7 +42,7 @@ module _ (i : ℕ) (r : Row) where
   kind_1 End e = refl
   kind_1 Undefined e = absurd (omega (arith, e))
 
-  kind_2 : (m : Meaning) → kind m ≡ 2 → Bad (codeBytes i) ≡ sized (taken i r m)
+  kind_2 : (m : Meaning) → kind m ≡ 2 → Bad (code_bytes i) ≡ sized (taken i r m)
   kind_2 (Does u) e = absurd (omega (arith, e))
   kind_2 End e = absurd (omega (arith, e))
   kind_2 Undefined e = refl
@@ -55,39 +55,39 @@ module _ (s : List ℕ) (i r : ℕ) where
   abbrev x : ℕ
   x = get_or s (i + 1) 0
 
-  module _ (e : r ≡ entry_of b) (whole : i + (rowOf b).bytes ≤ length s) (small : b < 256) where
+  module _ (e : r ≡ entry_of b) (whole : i + (row_of b).bytes ≤ length s) (small : b < 256) where
     abbrev m : Meaning
-    m = (rowOf b).means (bytes s i (rowOf b).bytes)
+    m = (row_of b).means (bytes s i (row_of b).bytes)
 
     there : i < length s
     there = omega (arith, (row-few b).some, whole)
 
-    whole_code : sized (takeAt s (codeBytes i)) ≡ sized (taken i (rowOf b) m)
+    whole_code : sized (take_at s (code_bytes i)) ≡ sized (taken i (row_of b) m)
     whole_code = ap sized (take_whole s i there (omega arith))
 
-    sort : r / 32 ≡ sortOf b
+    sort : r / 32 ≡ sort_of b
     sort = ap (λ n. n / 32) e ∙ entry-sort b
 
-    one-here : One (halfwords (r / 8 % 4)) (codeBytes (i + r % 8)) ≡ passed i (rowOf b)
-    one-here = ap₂ One (entry-halfwords b e) (ap (λ n. codeBytes (i + n)) (entry-count b e))
+    one-here : One (halfwords (r / 8 % 4)) (code_bytes (i + r % 8)) ≡ passed i (row_of b)
+    one-here = ap₂ One (entry-halfwords b e) (ap (λ n. code_bytes (i + n)) (entry-count b e))
 
-    kind-here : sortOf b < 3 → kind m ≡ sortOf b
+    kind-here : sort_of b < 3 → kind m ≡ sort_of b
     kind-here l =
-        by_kind b (bytes s i (rowOf b).bytes) small (λ n. ap (bytes s i) n ∙ sym (bytes_one s i b there refl)) l
+        by_kind b (bytes s i (row_of b).bytes) small (λ n. ap (bytes s i) n ∙ sym (bytes_one s i b there refl)) l
 
     -- by the sort alone
-    pub sort-0 : r / 32 ≡ 0 → One (halfwords (r / 8 % 4)) (codeBytes (i + r % 8)) ≡ sized (takeAt s (codeBytes i))
-    sort-0 h = one-here ∙ kind_0 i (rowOf b) m (kind-here (omega (arith, sort)) ∙ sym sort ∙ h) ∙ sym whole_code
+    pub sort-0 : r / 32 ≡ 0 → One (halfwords (r / 8 % 4)) (code_bytes (i + r % 8)) ≡ sized (take_at s (code_bytes i))
+    sort-0 h = one-here ∙ kind_0 i (row_of b) m (kind-here (omega (arith, sort)) ∙ sym sort ∙ h) ∙ sym whole_code
 
-    pub sort-1 : r / 32 ≡ 1 → Last (halfwords (r / 8 % 4)) ≡ sized (takeAt s (codeBytes i))
-    sort-1 h = ap Last (entry-halfwords b e) ∙ kind_1 i (rowOf b) m (kind-here (omega (arith, sort)) ∙ sym sort ∙ h) ∙ sym whole_code
+    pub sort-1 : r / 32 ≡ 1 → Last (halfwords (r / 8 % 4)) ≡ sized (take_at s (code_bytes i))
+    sort-1 h = ap Last (entry-halfwords b e) ∙ kind_1 i (row_of b) m (kind-here (omega (arith, sort)) ∙ sym sort ∙ h) ∙ sym whole_code
 
-    pub sort-2 : r / 32 ≡ 2 → Bad (codeBytes i) ≡ sized (takeAt s (codeBytes i))
-    sort-2 h = kind_2 i (rowOf b) m (kind-here (omega (arith, sort)) ∙ sym sort ∙ h) ∙ sym whole_code
+    pub sort-2 : r / 32 ≡ 2 → Bad (code_bytes i) ≡ sized (take_at s (code_bytes i))
+    sort-2 h = kind_2 i (row_of b) m (kind-here (omega (arith, sort)) ∙ sym sort ∙ h) ∙ sym whole_code
 
     -- by the second byte
     module _ (l : 3 ≤ r / 32) where
-      late : 3 ≤ sortOf b
+      late : 3 ≤ sort_of b
       late = omega (arith, sort)
 
       pub second : i + 1 < length s
@@ -96,37 +96,37 @@ module _ (s : List ℕ) (i r : ℕ) where
       module _ (h : x < 256) where
         said : kind m ≡ (if fitting (r / 32) x then 0 else 2)
         said =
-            ap (λ n. kind ((rowOf b).means (bytes s i n))) (two_bytes b late)
-            ∙ ap (λ v. kind ((rowOf b).means v)) (sym (bytes-more s i 1 b x second (bytes_one s i b there refl) refl))
+            ap (λ n. kind ((row_of b).means (bytes s i n))) (two_bytes b late)
+            ∙ ap (λ v. kind ((row_of b).means v)) (sym (bytes-more s i 1 b x second (bytes_one s i b there refl) refl))
             ∙ by-second x h b late
             ∙ ap (λ n. if fitting n x then 0 else 2) (sym sort)
 
-        pub fits_one : fitting (r / 32) x ≡ true → One (halfwords (r / 8 % 4)) (codeBytes (i + r % 8)) ≡ sized (takeAt s (codeBytes i))
-        fits_one f = one-here ∙ kind_0 i (rowOf b) m (said ∙ ap (λ t. if t then 0 else 2) f) ∙ sym whole_code
+        pub fits_one : fitting (r / 32) x ≡ true → One (halfwords (r / 8 % 4)) (code_bytes (i + r % 8)) ≡ sized (take_at s (code_bytes i))
+        fits_one f = one-here ∙ kind_0 i (row_of b) m (said ∙ ap (λ t. if t then 0 else 2) f) ∙ sym whole_code
 
-        pub fits_not : fitting (r / 32) x ≡ false → Bad (codeBytes i) ≡ sized (takeAt s (codeBytes i))
-        fits_not f = kind_2 i (rowOf b) m (said ∙ ap (λ t. if t then 0 else 2) f) ∙ sym whole_code
+        pub fits_not : fitting (r / 32) x ≡ false → Bad (code_bytes i) ≡ sized (take_at s (code_bytes i))
+        fits_not f = kind_2 i (row_of b) m (said ∙ ap (λ t. if t then 0 else 2) f) ∙ sym whole_code
 
 -- what was taken, by what is told of it
 module _ (s : List ℕ) (i : CodeBytes) where
-  pub told-one : {z : Halfwords} {next : CodeBytes} → sized (takeAt s i) ≡ One z next → (c : Code) × (seen (takeAt s i) ≡ one c next) × (c.size ≡ z)
-  told-one {z} {next} e = go (takeAt s i) e
+  pub told-one : {z : Halfwords} {next : CodeBytes} → sized (take_at s i) ≡ One z next → (c : Code) × (seen (take_at s i) ≡ one c next) × (c.size ≡ z)
+  told-one {z} {next} e = go (take_at s i) e
     where
       go : (t : Taken) → sized t ≡ One z next → (c : Code) × (seen t ≡ one c next) × (c.size ≡ z)
       go (T.One c n) e = let p : n ≡ next = cc in (c, ap (one c) p, cc)
       go (T.Last n) e = absurd (let y : ◌≡◌ {A = ℕ} 0 1 = cc in omega arith)
       go (T.Bad j) e = absurd (let y : ◌≡◌ {A = ℕ} 0 1 = cc in omega arith)
 
-  pub told-last : {z : Halfwords} → sized (takeAt s i) ≡ Last z → seen (takeAt s i) ≡ last (halfwordBytes z)
-  told-last {z} e = go (takeAt s i) e
+  pub told-last : {z : Halfwords} → sized (take_at s i) ≡ Last z → seen (take_at s i) ≡ last (halfword_bytes z)
+  told-last {z} e = go (take_at s i) e
     where
-      go : (t : Taken) → sized t ≡ Last z → seen t ≡ last (halfwordBytes z)
+      go : (t : Taken) → sized t ≡ Last z → seen t ≡ last (halfword_bytes z)
       go (T.One c n) e = absurd (let y : ◌≡◌ {A = ℕ} 0 1 = cc in omega arith)
-      go (T.Last n) e = let p : n ≡ z = cc in ap (λ x. last (halfwordBytes x)) p
+      go (T.Last n) e = let p : n ≡ z = cc in ap (λ x. last (halfword_bytes x)) p
       go (T.Bad j) e = absurd (let y : ◌≡◌ {A = ℕ} 0 1 = cc in omega arith)
 
-  pub told-bad : {k : CodeBytes} → sized (takeAt s i) ≡ Bad k → seen (takeAt s i) ≡ bad k
-  told-bad {k} e = go (takeAt s i) e
+  pub told-bad : {k : CodeBytes} → sized (take_at s i) ≡ Bad k → seen (take_at s i) ≡ bad k
+  told-bad {k} e = go (take_at s i) e
     where
       go : (t : Taken) → sized t ≡ Bad k → seen t ≡ bad k
       go (T.One c n) e = absurd (let y : ◌≡◌ {A = ℕ} 0 1 = cc in omega arith)

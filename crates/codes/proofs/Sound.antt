@@ -12,7 +12,7 @@ use borrow.Author.Tests.{eqb-false}
 use Rattle.words.specs.Bits.{bits}
 use Rattle.words.specs.Units.{stack_words}
 use Rattle.words.specs.Answer.{if◌then◌else◌}
-use Rattle.codes.specs.Table.{Row, rows, row_in, rowOf, range, lrIf}
+use Rattle.codes.specs.Table.{Row, rows, row_in, row_of, range, lr_if}
 use Rattle.codes.specs.declared.Meaning.TheVariants.{Does, End, Undefined}
 use Rattle.codes.specs.declared.Undo.{Undo}
 use Rattle.codes.specs.declared.Undo.TheVariants.{Up, Pop, SpFrom, Vpop, LoadLr, Nothing}
@@ -60,8 +60,8 @@ says-from x u l h = go (eqb x 13) (eqb x 15) refl refl h
     go false false p q h = says (SpFrom x) u (omega (arith, eqb-false x 15 q), eqb-false x 13 p) h
 
 -- a pop of registers and, by a bit of the code, LR
-pops : (l : ℕ) → l < 8192 → (k v : ℕ) (u : Undo) → Does (Pop (l + lrIf (bits k 1 v))) ≡ Does u → Sound u
-pops l h k v u = says (Pop (l + lrIf (bits k 1 v))) u (joined-list l h k v)
+pops : (l : ℕ) → l < 8192 → (k v : ℕ) (u : Undo) → Does (Pop (l + lr_if (bits k 1 v))) ≡ Does u → Sound u
+pops l h k v u = says (Pop (l + lr_if (bits k 1 v))) u (joined-list l h k v)
 
 sound-rows : Every rows
 unfolding rows
@@ -100,9 +100,9 @@ sound-in b (◌&◌ {r = r} {rs = rs} p ps) v u h = go (leb b r.last) h (λ q. s
     go true q ih = p v u q
     go false q ih = ih q
 
-pub sound-code : (b v : ℕ) (u : Undo) → (rowOf b).means v ≡ Does u → Sound u
+pub sound-code : (b v : ℕ) (u : Undo) → (row_of b).means v ≡ Does u → Sound u
 sound-code b = sound-in b sound-rows
 
 -- every form of pop makes the same list
-pub pop-list : (b v l : ℕ) → (rowOf b).means v ≡ Does (Pop l) → RegisterList l
+pub pop-list : (b v l : ℕ) → (row_of b).means v ≡ Does (Pop l) → RegisterList l
 pop-list b v l = sound-code b v (Pop l)

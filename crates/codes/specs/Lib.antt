@@ -1,4 +1,4 @@
 pub mod Table
 pub mod Code
 pub mod Condition
-pub mod as_coded
+pub mod AsCoded

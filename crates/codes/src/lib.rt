@@ -4,12 +4,12 @@ pub mod list;
 mod table;
 
 ghost use Rattle.std.specs.Prelude.{◌≡◌, ◌+◌, ◌≤◌, ◌<◌, length, take, drop, get_or, ◌||◌, leb, eqb};
-ghost use Rattle.words.specs.Units.{codeBytes, stack_words};
+ghost use Rattle.words.specs.Units.{code_bytes as spec_code_bytes, stack_words};
 ghost use Rattle.words.specs.Answer.{if◌then◌else◌};
-ghost use Rattle.codes.specs.Table.{rowOf, lrIf};
-ghost use Rattle.codes.specs.as_coded.Rows.{entry_of, rowNumbers};
-ghost use Rattle.codes.specs.as_coded.Sizing.{sized, fitting};
-ghost use Rattle.codes.specs.Code.{value as value_of, taken as taken_of, takeAt};
+ghost use Rattle.codes.specs.Table.{row_of as spec_row_of, lr_if as spec_lr_if};
+ghost use Rattle.codes.specs.AsCoded.Rows.{entry_of, row_numbers};
+ghost use Rattle.codes.specs.AsCoded.Sizing.{sized, fitting};
+ghost use Rattle.codes.specs.Code.{value as value_of, taken as taken_of, take_at as spec_take_at};
 
 use list::{from_r4, lr_if};
 use words::{CodeBytes, Halfwords, StackWords, bit, bits};
@@ -24,7 +24,7 @@ pub enum Undo {
     Pop(u32),
     // SP becomes rX
     SpFrom(u32),
-    // dS to dE are popped
+    // d_s to d_e are popped
     Vpop(u32, u32),
     // LR takes the word at SP, and SP rises by so many words (RULES 3.14)
     LoadLr(StackWords),
@@ -69,14 +69,14 @@ pub enum Sized {
 
 // The bytes of the code that a first byte begins.
 pub fn code_bytes(b: u8) -> usize
-    ensures { (result ≡ (rowOf b).bytes) × (1 ≤ result) × (result ≤ 4) }
+    ensures { (result ≡ (spec_row_of b).bytes) × (1 ≤ result) × (result ≤ 4) }
 {
     (table::ROWS[b as usize] % 8) as usize
 }
 
 // The size of its instruction.
 pub fn instruction_size(b: u8) -> Halfwords
-    ensures { (result ≡ (rowOf b).size) × (result.0 ≤ 2) }
+    ensures { (result ≡ (spec_row_of b).size) × (result.0 ≤ 2) }
 {
     Halfwords((table::ROWS[b as usize] / 8 % 4) as u32)
 }
@@ -84,14 +84,14 @@ pub fn instruction_size(b: u8) -> Halfwords
 // The table itself, to be lent to whoever goes over many codes: a constant array is laid on the stack anew wherever it is indexed. What is
 // lent it asks for this table and no other (`requires`), which its caller has from here.
 pub fn row_table() -> [u8; 256]
-    ensures { result ≡ rowNumbers }
+    ensures { result ≡ row_numbers }
 {
     table::ROWS
 }
 
 // A first byte's entry of the table that is lent.
 fn row_of(t: &[u8; 256], b: u8) -> u8
-    requires { t.now ≡ rowNumbers }
+    requires { t.now ≡ row_numbers }
     ensures { result ≡ entry_of b }
 {
     t[b as usize]
@@ -107,12 +107,12 @@ fn up(n: u32) -> Meaning
 // Pop a list of r0-r12, and LR if it is listed.
 fn pop(others: u32, lr: bool) -> Meaning
     requires { others < 8192 }
-    ensures { result ≡ Meaning.Does (Undo.Pop (others + lrIf (if lr then 1 else 0))) }
+    ensures { result ≡ Meaning.Does (Undo.Pop (others + spec_lr_if (if lr then 1 else 0))) }
 {
     Meaning::Does(Undo::Pop(others + lr_if(lr)))
 }
 
-// vpop dS-dE, where the list is not empty.
+// vpop d_s-d_e, where the list is not empty.
 fn vpop(s: u32, e: u32) -> Meaning
     ensures { result ≡ (if leb s e then Meaning.Does (Undo.Vpop s e) else Meaning.Undefined) }
 {
@@ -146,7 +146,7 @@ fn load_lr(high: u32, low: u32) -> Meaning
 
 // What a code means, by its first byte and its value, which is its bytes as one number: the rows of RULES 3.2. docs/POPS.md reads those that pop.
 pub fn means(b: u8, v: u32) -> Meaning
-    ensures { result ≡ (rowOf b).means v }
+    ensures { result ≡ (spec_row_of b).means v }
 {
     match b {
         0x00..=0x7F => up(bits(v, 0, 7)),
@@ -198,8 +198,8 @@ fn value(codes: &[u8], at: usize, n: usize) -> u32
 
 // The code at an index, by its first byte, its size and its value; `next` is the index of what follows it.
 fn take_as(b: u8, size: Halfwords, v: u32, at: CodeBytes, next: CodeBytes) -> Taken
-    requires { (size ≡ (rowOf b).size) × (next ≡ codeBytes (at.0 + (rowOf b).bytes)) }
-    ensures { result ≡ taken_of at.0 (rowOf b) ((rowOf b).means v) }
+    requires { (size ≡ (spec_row_of b).size) × (next ≡ spec_code_bytes (at.0 + (spec_row_of b).bytes)) }
+    ensures { result ≡ taken_of at.0 (spec_row_of b) ((spec_row_of b).means v) }
 {
     let m = means(b, v);
     match m {
@@ -211,8 +211,8 @@ fn take_as(b: u8, size: Halfwords, v: u32, at: CodeBytes, next: CodeBytes) -> Ta
 
 // The code at an index of the code bytes. The table is lent: `t` is what `row_table` gives.
 pub fn take_at(t: &[u8; 256], codes: &[u8], at: CodeBytes) -> Taken
-    requires { t.now ≡ rowNumbers }
-    ensures { result ≡ takeAt codes.now at }
+    requires { t.now ≡ row_numbers }
+    ensures { result ≡ spec_take_at codes.now at }
 {
     let i = at.0;
     if codes.len() <= i {
@@ -246,8 +246,8 @@ fn fits(sort: u8, second: u8) -> bool
 
 // The code at an index by its entry of the table, where all its bytes are.
 fn size_as(row: u8, codes: &[u8], at: CodeBytes) -> Sized
-    requires { (row ≡ entry_of (get_or codes.now at.0 0)) × (at.0 + (rowOf (get_or codes.now at.0 0)).bytes ≤ length codes.now) }
-    ensures { result ≡ sized (takeAt codes.now at) }
+    requires { (row ≡ entry_of (get_or codes.now at.0 0)) × (at.0 + (spec_row_of (get_or codes.now at.0 0)).bytes ≤ length codes.now) }
+    ensures { result ≡ sized (spec_take_at codes.now at) }
 {
     let sort = row / 32;
     let size = Halfwords((row / 8 % 4) as u32);
@@ -269,8 +269,8 @@ fn size_as(row: u8, codes: &[u8], at: CodeBytes) -> Sized
 
 // The code at an index without what it undoes, which going over a list does not need: the entry's sort says what it is.
 pub fn size_at(t: &[u8; 256], codes: &[u8], at: CodeBytes) -> Sized
-    requires { t.now ≡ rowNumbers }
-    ensures { result ≡ sized (takeAt codes.now at) }
+    requires { t.now ≡ row_numbers }
+    ensures { result ≡ sized (spec_take_at codes.now at) }
 {
     let i = at.0;
     if codes.len() <= i {

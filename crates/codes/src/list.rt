@@ -4,7 +4,7 @@
 // and the lines that load one.
 ghost use Rattle.std.specs.Prelude.{◌≡◌, ◌<◌, leb};
 ghost use Rattle.words.specs.Answer.{if◌then◌else◌};
-ghost use Rattle.codes.specs.Table.{range as range_of, fromR4, lrIf};
+ghost use Rattle.codes.specs.Table.{range as range_of, from_r4 as spec_from_r4, lr_if as spec_lr_if};
 
 // ra to rb, where b is at most 12, so that SP and PC are in no range; no register if it is more, or below a.
 pub fn range(a: u32, b: u32) -> u32
@@ -18,7 +18,7 @@ pub fn range(a: u32, b: u32) -> u32
 
 // r4 to rX for X from 4 to 11, and no register for others.
 pub fn from_r4(x: u32) -> u32
-    ensures { (result ≡ fromR4 x) × (result < 4096) }
+    ensures { (result ≡ spec_from_r4 x) × (result < 4096) }
 {
     if 4 <= x && x <= 11 {
         return range(4, x);
@@ -28,7 +28,7 @@ pub fn from_r4(x: u32) -> u32
 
 // LR, if it is listed.
 pub fn lr_if(listed: bool) -> u32
-    ensures { result ≡ lrIf (if listed then 1 else 0) }
+    ensures { result ≡ spec_lr_if (if listed then 1 else 0) }
 {
     if listed {
         return 16384;

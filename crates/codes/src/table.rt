@@ -1,5 +1,5 @@
-// The constant table of RULES 3.3, by first byte: a code's bytes, its instruction's size and its sort in one number (rowNumbers of
-// specs/as_coded/Rows.antt), computed from the rows of RULES 3.2 and compared with them entry by entry where the proofs read it.
+// The constant table of RULES 3.3, by first byte: a code's bytes, its instruction's size and its sort in one number (row_numbers of
+// specs/AsCoded/Rows.antt), computed from the rows of RULES 3.2 and compared with them entry by entry where the proofs read it.
 pub const ROWS: [u8; 256] = [
     9, 9, 9, 9, 9, 9, 9, 9, 9, 9, 9, 9, 9, 9, 9, 9, 9, 9, 9, 9, 9, 9, 9, 9, 9, 9, 9, 9, 9, 9, 9, 9,
     9, 9, 9, 9, 9, 9, 9, 9, 9, 9, 9, 9, 9, 9, 9, 9, 9, 9, 9, 9, 9, 9, 9, 9, 9, 9, 9, 9, 9, 9, 9, 9,

@@ -8,8 +8,8 @@ use lib.Dec.{eqb}
 use Rattle.words.specs.Answer.{Res, ok, refuse, if◌then◌else◌}
 use Rattle.unwinding.specs.CodeList.{total}
 use Rattle.expected.specs.Expected.{before, after, ending, meets}
-use Rattle.comparing.specs.Items.{Coded, size_of, Role, opens, closes, leaves, Item, fits, compared, is_last, item, prologueItems, epilogueItems}
-use Rattle.comparing.specs.as_coded.Passes.{last_of, or_else, test, prologuePass, endPass, epiloguePass}
+use Rattle.comparing.specs.Items.{Coded, size_of, Role, opens, closes, leaves, Item, fits, compared, is_last, item, prologue_items, epilogue_items}
+use Rattle.comparing.specs.AsCoded.Passes.{last_of, or_else, test, prologue_pass, end_pass, epilogue_pass}
 use Rattle.comparing.specs.declared.Compared.{Compared}
 use Rattle.comparing.specs.declared.Compared.TheVariants.{Same, Differs}
 
@@ -30,21 +30,21 @@ or_assoc (Differs o) b c = refl
 
 module _ (s : List ℕ) where
   -- a prologue from its end down: what is found before stands behind
-  prologue-found : (cs : List Coded) (found : Compared) → prologuePass s cs found ≡ or_else (compared (prologueItems s cs)) found
-  unfolding prologuePass prologueItems compared
+  prologue-found : (cs : List Coded) (found : Compared) → prologue_pass s cs found ≡ or_else (compared (prologue_items s cs)) found
+  unfolding prologue_pass prologue_items compared
   prologue-found [] found = refl
   prologue-found (c ∷ cs) found =
       prologue-found cs _
-      ∙ ap (or_else (compared (prologueItems s cs))) (go (test s (total size_of cs) (before c.first c.code)))
-      ∙ sym (or_assoc (compared (prologueItems s cs)) (compared (item s (total size_of cs) (opens c) ∷ [])) found)
-      ∙ ap (λ x. or_else x found) (sym (compared-append (prologueItems s cs) (item s (total size_of cs) (opens c) ∷ [])))
+      ∙ ap (or_else (compared (prologue_items s cs))) (go (test s (total size_of cs) (before c.first c.code)))
+      ∙ sym (or_assoc (compared (prologue_items s cs)) (compared (item s (total size_of cs) (opens c) ∷ [])) found)
+      ∙ ap (λ x. or_else x found) (sym (compared-append (prologue_items s cs) (item s (total size_of cs) (opens c) ∷ [])))
     where
       go : (t : Bool) → (if t then found else Differs (total size_of cs)) ≡ or_else (if t then Same else Differs (total size_of cs)) found
       go true = refl
       go false = refl
 
-  pub prologue-compared : (cs : List Coded) → prologuePass s cs Same ≡ compared (prologueItems s cs)
-  prologue-compared cs = prologue-found cs Same ∙ none (compared (prologueItems s cs))
+  pub prologue-compared : (cs : List Coded) → prologue_pass s cs Same ≡ compared (prologue_items s cs)
+  prologue-compared cs = prologue-found cs Same ∙ none (compared (prologue_items s cs))
     where
       none : (x : Compared) → or_else x Same ≡ x
       none Same = refl
@@ -54,13 +54,13 @@ module _ (s : List ℕ) where
   last-same [] e = refl
   last-same (c ∷ cs) e = refl
 
-  pub epilogue-compared : (o : ℕ) (cs : List Coded) (e : ℕ) → epiloguePass s o cs (ok e) ≡ compared (epilogueItems s o cs e)
-  unfolding epiloguePass epilogueItems compared
+  pub epilogue-compared : (o : ℕ) (cs : List Coded) (e : ℕ) → epilogue_pass s o cs (ok e) ≡ compared (epilogue_items s o cs e)
+  unfolding epilogue_pass epilogue_items compared
   epilogue-compared o [] e = go (eqb e 0)
     where
       go : (z : Bool) → (if z || test s o (ending e) then Same else Differs o) ≡ compared (if z then [] else item s o (leaves e) ∷ [])
       go true = refl
       go false = refl
   epilogue-compared o (c ∷ cs) e =
-      ap (λ b. if test s o (after b c.code) then epiloguePass s (o + size_of c) cs (ok e) else Differs o) (last-same cs e)
+      ap (λ b. if test s o (after b c.code) then epilogue_pass s (o + size_of c) cs (ok e) else Differs o) (last-same cs e)
       ∙ ap (λ x. if test s o (after (is_last cs e) c.code) then x else Differs o) (epilogue-compared (o + size_of c) cs e)

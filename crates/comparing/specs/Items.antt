@@ -8,7 +8,7 @@ use Rattle.unwinding.specs.Taking as Any
 use Rattle.unwinding.specs.Taking.{Taken, one, last, bad, Scan}
 use Rattle.codes.specs.Code.{size, taking, bytes_of}
 use Rattle.codes.specs.declared.Code.{Code}
-use Rattle.thumb.specs.Instruction.{instructionAt}
+use Rattle.thumb.specs.Instruction.{instruction_at}
 use Rattle.thumb.specs.declared.Instruction.{Instruction}
 use Rattle.expected.specs.Expected.{before, after, ending, meets}
 use Rattle.expected.specs.declared.Expected.{Expected}
@@ -24,19 +24,19 @@ abbrev pub size_of : Coded → ℕ
 size_of c = size c.code
 
 -- code lists of such codes
-abbrev pub withFirst : (first : ℕ) → Taken Code → Taken Coded
-withFirst b (one c next) = one (record { code = c; first = b }) next
-withFirst b (last n) = last n
-withFirst b (bad i) = bad i
+abbrev pub with_first : (first : ℕ) → Taken Code → Taken Coded
+with_first b (one c next) = one (record { code = c; first = b }) next
+with_first b (last n) = last n
+with_first b (bad i) = bad i
 
-abbrev pub takingCoded : (at : ℕ) → (left : List ℕ) → Taken Coded
-takingCoded at left = withFirst (get_or left 0 0) (taking at left)
+abbrev pub taking_coded : (at : ℕ) → (left : List ℕ) → Taken Coded
+taking_coded at left = with_first (get_or left 0 0) (taking at left)
 
-abbrev pub scanCoded : List ℕ → CodeBytes → Scan Coded
-scanCoded s i = Any.scan takingCoded bytes_of s i
+abbrev pub scan_coded : List ℕ → CodeBytes → Scan Coded
+scan_coded s i = Any.scan taking_coded bytes_of s i
 
-abbrev pub codedAt : List ℕ → CodeBytes → Res (Codes Coded)
-codedAt s i = Any.codesAt takingCoded bytes_of s i
+abbrev pub coded_at : List ℕ → CodeBytes → Res (Codes Coded)
+coded_at s i = Any.codes_at taking_coded bytes_of s i
 
 -- what an instruction is there for: a code of a prologue; one of an epilogue, the last before FF or not; an end code, by its size
 pub data Role : Type 0 where
@@ -63,21 +63,21 @@ compared [] = Same
 compared (i ∷ is) = let further = compared is in if fits i then further else Differs i.offset
 
 -- whether a code is the last before FF
-abbrev pub is_last : (behind : List Coded) → (endSize : ℕ) → Bool
+abbrev pub is_last : (behind : List Coded) → (end_size : ℕ) → Bool
 is_last [] e = eqb e 0
 is_last (c ∷ cs) e = false
 
 -- over a function's bytes
 module _ (s : List ℕ) where
   abbrev pub item : ℕ → Role → Item
-  item o r = record { offset = o; role = r; found = instructionAt s o }
+  item o r = record { offset = o; role = r; found = instruction_at s o }
 
   -- a prologue: the last code's instruction stands first
-  unfoldable pub prologueItems : List Coded → List Item
-  prologueItems [] = []
-  prologueItems (c ∷ cs) = prologueItems cs ++ (item (total size_of cs) (opens c) ∷ [])
+  unfoldable pub prologue_items : List Coded → List Item
+  prologue_items [] = []
+  prologue_items (c ∷ cs) = prologue_items cs ++ (item (total size_of cs) (opens c) ∷ [])
 
   -- an epilogue from an offset on: the first code's instruction first, that of the end code last, if it has one
-  unfoldable pub epilogueItems : (offset : ℕ) → List Coded → (endSize : ℕ) → List Item
-  epilogueItems o [] e = if eqb e 0 then [] else item o (leaves e) ∷ []
-  epilogueItems o (c ∷ cs) e = item o (closes (is_last cs e) c) ∷ epilogueItems (o + size_of c) cs e
+  unfoldable pub epilogue_items : (offset : ℕ) → List Coded → (end_size : ℕ) → List Item
+  epilogue_items o [] e = if eqb e 0 then [] else item o (leaves e) ∷ []
+  epilogue_items o (c ∷ cs) e = item o (closes (is_last cs e) c) ∷ epilogue_items (o + size_of c) cs e

@@ -1,2 +1,2 @@
 pub mod Items
-pub mod as_coded
+pub mod AsCoded

@@ -1,12 +1,12 @@
 // A prologue's and an epilogue's instructions in one pass over their codes: the first that is not the one of its code (RULES 13.4). It knows
 // neither records nor files.
 ghost use Rattle.std.specs.Prelude.{◌≡◌, ◌+◌, ◌*◌, ◌^◌, ◌<◌, length};
-ghost use Rattle.words.specs.Units.{codeBytes, halfwordBytes};
+ghost use Rattle.words.specs.Units.{code_bytes, halfword_bytes as spec_halfword_bytes};
 ghost use Rattle.words.specs.Answer.{ok, if◌then◌else◌};
 ghost use Rattle.unwinding.specs.CodeList.{total};
-ghost use Rattle.codes.specs.as_coded.Rows.{rowNumbers};
-ghost use Rattle.comparing.specs.Items.{size_of, scanCoded};
-ghost use Rattle.comparing.specs.as_coded.Passes as P;
+ghost use Rattle.codes.specs.AsCoded.Rows.{row_numbers};
+ghost use Rattle.comparing.specs.Items.{size_of, scan_coded};
+ghost use Rattle.comparing.specs.AsCoded.Passes as P;
 
 use codes::{Sized, Taken, size_at, take_at};
 use expected::Expected;
@@ -36,8 +36,8 @@ fn noted(found: Compared, met: bool, at: u64) -> Compared
 // The first instruction of a prologue that is not the one of its code. Its codes are those from index 0, whose instructions take so many
 // bytes: the first code's stands last. The table of codes is lent.
 pub fn prologue(t: &[u8; 256], codes: &[u8], code: &[u8], size: u64) -> Compared
-    requires { (t.now ≡ rowNumbers) × (size ≡ total size_of (scanCoded codes.now (codeBytes 0)).list) }
-    ensures { result ≡ P.prologuePass code.now (scanCoded codes.now (codeBytes 0)).list Compared.Same }
+    requires { (t.now ≡ row_numbers) × (size ≡ total size_of (scan_coded codes.now (code_bytes 0)).list) }
+    ensures { result ≡ P.prologue_pass code.now (scan_coded codes.now (code_bytes 0)).list Compared.Same }
 {
     let mut found = Compared::Same;
     let mut left = size;
@@ -65,8 +65,8 @@ pub fn prologue(t: &[u8; 256], codes: &[u8], code: &[u8], size: u64) -> Compared
 
 // Whether FF stands at an index.
 fn returns_at(t: &[u8; 256], codes: &[u8], at: CodeBytes) -> bool
-    requires { t.now ≡ rowNumbers }
-    ensures { result ≡ P.last_of (scanCoded codes.now at).list (scanCoded codes.now at).ending }
+    requires { t.now ≡ row_numbers }
+    ensures { result ≡ P.last_of (scan_coded codes.now at).list (scan_coded codes.now at).ending }
 {
     match size_at(t, codes, at) {
         Sized::One(_, _) => false,
@@ -77,7 +77,7 @@ fn returns_at(t: &[u8; 256], codes: &[u8], at: CodeBytes) -> bool
 
 // The instruction of an end code of this size, if it has one.
 fn end_at(code: &[u8], at: u64, size: Halfwords) -> Compared
-    ensures { result ≡ P.endPass code.now at (ok (halfwordBytes size)) }
+    ensures { result ≡ P.end_pass code.now at (ok (spec_halfword_bytes size)) }
 {
     if size.0 == 0 {
         return Compared::Same;
@@ -87,8 +87,8 @@ fn end_at(code: &[u8], at: u64, size: Halfwords) -> Compared
 
 // The same of an epilogue from an offset on, whose codes are those from an index: the first code's instruction stands first.
 pub fn epilogue(t: &[u8; 256], codes: &[u8], index: CodeBytes, code: &[u8], start: u64) -> Compared
-    requires { (t.now ≡ rowNumbers) × (start + 4 * length codes.now < 2 ^ 64) }
-    ensures { result ≡ P.epiloguePass code.now start (scanCoded codes.now index).list (scanCoded codes.now index).ending }
+    requires { (t.now ≡ row_numbers) × (start + 4 * length codes.now < 2 ^ 64) }
+    ensures { result ≡ P.epilogue_pass code.now start (scan_coded codes.now index).list (scan_coded codes.now index).ending }
 {
     let mut at = start;
     let mut i = index.0;

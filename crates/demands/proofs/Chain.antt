@@ -9,7 +9,7 @@ use lib.Dec.{leb, eqb}
 use lib.ListN.{length}
 use native.Mathlib.Omega.{arith}
 use borrow.Author.Tests.{eqb-true, eqb-false}
-use Rattle.words.specs.Units.{stack_words, codeBytes}
+use Rattle.words.specs.Units.{stack_words, code_bytes}
 use Rattle.words.specs.declared.Refusal.{Refusal}
 use Rattle.words.specs.declared.Refusal.TheVariants.{Reserved, BadLayout, SpFell}
 use Rattle.words.specs.Answer.{Res, ok, refuse, need, if◌then◌else◌, ◌>>=◌, ◌>>◌}
@@ -23,51 +23,51 @@ use Rattle.unwinding.specs.Todo.{Todo, todo}
 use Rattle.unwinding.proofs.Viewed.{Viewed, viewed}
 use Rattle.unwinding.proofs.Resized.{Smaller, Placed, Blind, run-resized, length-resized, view-resized, todo-freed, todo-past, todo-behind, todo-until}
 use Rattle.codes.specs.Table.{bits16, bits32}
-use Rattle.codes.specs.Code.{size, codesAt}
+use Rattle.codes.specs.Code.{size, codes_at}
 use Rattle.codes.specs.Condition.{always, executing}
 use Rattle.codes.specs.declared.Code.{Code}
 use Rattle.codes.specs.declared.Undo.TheVariants.{Up}
 use Rattle.machine.specs.declared.Regs.{Regs}
 use Rattle.machine.specs.Step.{step}
-use Rattle.packed.specs.Packed.{Fit, fields, allowed, integers, PF, packedSpan, packedFragment}
+use Rattle.packed.specs.Packed.{Fit, fields, allowed, integers, PF, packed_span, packed_fragment}
 use Rattle.packed.specs.declared.Packed.{Packed}
-use Rattle.packed.proofs.Words.{fields_fit}
-use Rattle.packed_codes.specs.PackedCodes.{low, pushed, chainAlone, written, writeCodes}
-use Rattle.packed_codes.specs.Lists.{pops, homes, prologueCodes, epilogueCodes}
-use Rattle.packed_codes.specs.Chain.{writtenBefore, codesBefore, nop}
+use Rattle.packed.proofs.Words.{fields_fit_lem}
+use Rattle.packed_codes.specs.PackedCodes.{low, pushed, chain_alone, written, write_codes}
+use Rattle.packed_codes.specs.Lists.{pops, homes, prologue_codes, epilogue_codes}
+use Rattle.packed_codes.specs.Chain.{written_before, codes_before, nop}
 use Rattle.packed_codes.specs.declared.CodesOf.{CodesOf}
 use Rattle.packed_codes.proofs.Decoding.{holds, before-first, before-second}
-use Rattle.packed_codes.proofs.Chain.{which, codesFront, codesBehind, code-before, code-after, chained}
-use Rattle.record.specs.Record.{lastScope, packedShape}
+use Rattle.packed_codes.proofs.Chain.{which, codes_front, codes_behind, code-before, code-after, chained}
+use Rattle.record.specs.Record.{last_scope, packed_shape}
 use Rattle.frame.specs.Frame.{Caller, returned, within}
-use Rattle.demands.specs.Chain.{shapeBefore, now, before, pushes, Moved, Order4}
+use Rattle.demands.specs.Chain.{shape_before, now, before, pushes, Moved, Order4}
 
 -- ---- the records
-abbrev shapeWith : Packed → CodesOf → Shape
-shapeWith p c =
-    record { span = packedSpan p; codes = c.bytes; fragment = packedFragment p; scopes = if eqb p.ret 3 then [] else lastScope c.first ∷ []; handler = 0 }
+abbrev shape_with : Packed → CodesOf → Shape
+shape_with p c =
+    record { span = packed_span p; codes = c.bytes; fragment = packed_fragment p; scopes = if eqb p.ret 3 then [] else last_scope c.first ∷ []; handler = 0 }
 
-shape-now : (w : ℕ) → packedShape w ≡ (need (allowed (fields w)) Reserved >> ok (shapeWith (fields w) (written (fields w))))
-unfolding packedShape writeCodes
+shape-now : (w : ℕ) → packed_shape w ≡ (need (allowed (fields w)) Reserved >> ok (shape_with (fields w) (written (fields w))))
+unfolding packed_shape write_codes
 shape-now w = go (allowed (fields w))
   where
-    go : (t : Bool) → ((need t Reserved >> ok (written (fields w))) >>= λ c. ok (shapeWith (fields w) c)) ≡ (need t Reserved >> ok (shapeWith (fields w) (written (fields w))))
+    go : (t : Bool) → ((need t Reserved >> ok (written (fields w))) >>= λ c. ok (shape_with (fields w) c)) ≡ (need t Reserved >> ok (shape_with (fields w) (written (fields w))))
     go true = refl
     go false = refl
 
-shape-before : (w : ℕ) → shapeBefore w ≡ (need (allowed (fields w)) Reserved >> ok (shapeWith (fields w) (writtenBefore (fields w))))
-unfolding shapeBefore
+shape-before : (w : ℕ) → shape_before w ≡ (need (allowed (fields w)) Reserved >> ok (shape_with (fields w) (written_before (fields w))))
+unfolding shape_before
 shape-before w = refl
 
-others : (w : ℕ) → chainAlone (pushed (fields w)) ≡ false → packedShape w ≡ shapeBefore w
+others : (w : ℕ) → chain_alone (pushed (fields w)) ≡ false → packed_shape w ≡ shape_before w
 others w h =
-    shape-now w ∙ ap (λ c. need (allowed (fields w)) Reserved >> ok (shapeWith (fields w) c)) ((chained (fields w) (fields_fit w)).kept h).0
+    shape-now w ∙ ap (λ c. need (allowed (fields w)) Reserved >> ok (shape_with (fields w) c)) ((chained (fields w) (fields_fit_lem w)).kept h).0
     ∙ sym (shape-before w)
 
 -- the one epilogue, unless Ret=3, by its codes
 epilogue-by :
-    (p : Packed) (c d : CodesOf) (e : Codes Code) (t : Bool) → (t ≡ false → codesAt c.bytes c.first ≡ ok e) → (t ≡ false → codesAt d.bytes d.first ≡ ok e)
-    → epilogues size codesAt (shapeWith p c) (if t then [] else lastScope c.first ∷ []) ≡ epilogues size codesAt (shapeWith p d) (if t then [] else lastScope d.first ∷ [])
+    (p : Packed) (c d : CodesOf) (e : Codes Code) (t : Bool) → (t ≡ false → codes_at c.bytes c.first ≡ ok e) → (t ≡ false → codes_at d.bytes d.first ≡ ok e)
+    → epilogues size codes_at (shape_with p c) (if t then [] else last_scope c.first ∷ []) ≡ epilogues size codes_at (shape_with p d) (if t then [] else last_scope d.first ∷ [])
 unfolding epilogues
 epilogue-by p c d e true q r = refl
 epilogue-by p c d e false q r = rw (q refl, r refl) refl
@@ -79,8 +79,8 @@ undone k g t =
     run (step k) t.codes g >>= λ h. need (leb g.sp h.sp) SpFell >> ok (record { regs = returned h; place = t.place; handler = 0; codes = length t.codes })
 
 within_by :
-    (k : Lent) (p : Packed) (c : CodesOf) (u : View Code) (o : ℕ) (g : Regs) → view size codesAt (shapeWith p c) ≡ ok u
-    → within k (shapeWith p c) o g ≡ (todo size executing u o >>= undone k g)
+    (k : Lent) (p : Packed) (c : CodesOf) (u : View Code) (o : ℕ) (g : Regs) → view size codes_at (shape_with p c) ≡ ok u
+    → within k (shape_with p c) o g ≡ (todo size executing u o >>= undone k g)
 unfolding within
 within_by k p c u o g e = rw e refl
 
@@ -91,7 +91,7 @@ nop-same k g = refl
 
 -- the nop, before the pushes
 abbrev smaller : Packed → Smaller size 2
-smaller p = record { old = nop bits32; new = nop bits16; back = codesBehind p; larger = refl; sized = omega arith }
+smaller p = record { old = nop bits32; new = nop bits16; back = codes_behind p; larger = refl; sized = omega arith }
 
 blind : (p : Packed) (k : Lent) (g : Regs) → Blind (smaller p) (undone k g)
 blind p k g at c =
@@ -110,58 +110,58 @@ homes-size p = go (eqb p.h 1)
     go false = refl
 
 -- the push of r11 and LR has 32 bits
-behind-size : (p : Packed) → Fit p → chainAlone (pushed p) ≡ true → total size (codesBehind p) ≡ pushes p
+behind-size : (p : Packed) → Fit p → chain_alone (pushed p) ≡ true → total size (codes_behind p) ≡ pushes p
 unfolding total
 behind-size p f h =
     let a = both (eqb p.r 1 && eqb p.c 1 && eqb p.l 1) (not (PF p)) (sym (which p f) ∙ h) in
     let l : p.l ≡ 1 = eqb-true p.l 1 (both (eqb p.r 1 && eqb p.c 1) (eqb p.l 1) a.0).1 in
     let i : integers p (PF p) ≡ 2 ^ 11 = omega (arith, l, eqb-true (pushed p) (2 ^ 11 + 2 ^ 14) h) in
-    let s : total size (codesBehind p) ≡ 4 + total size (homes p) = ap₂ (λ (x y : ℕ). total size (pops (low x) x y ++ homes p)) i l in
+    let s : total size (codes_behind p) ≡ 4 + total size (homes p) = ap₂ (λ (x y : ℕ). total size (pops (low x) x y ++ homes p)) i l in
     omega (arith, s, homes-size p)
 
 -- ---- a word that pushes r11 and LR alone
-module _ (w : ℕ) (v : View Code) (h : chainAlone (pushed (fields w)) ≡ true) (a : allowed (fields w) ≡ true) (passed : view size codesAt (shapeWith (fields w) (writtenBefore (fields w))) ≡ ok v) where
+module _ (w : ℕ) (v : View Code) (h : chain_alone (pushed (fields w)) ≡ true) (a : allowed (fields w) ≡ true) (passed : view size codes_at (shape_with (fields w) (written_before (fields w))) ≡ ok v) where
   abbrev p : Packed
   p = fields w
 
   fit : Fit p
-  fit = fields_fit w
+  fit = fields_fit_lem w
 
-  seen : Viewed size codesAt (shapeWith p (writtenBefore p)) v
-  seen = viewed size codesAt (shapeWith p (writtenBefore p)) v passed
+  seen : Viewed size codes_at (shape_with p (written_before p)) v
+  seen = viewed size codes_at (shape_with p (written_before p)) v passed
 
-  list-was : v.codes.list ≡ codesFront p ++ (nop bits32 ∷ codesBehind p)
-  list-was = ap (λ (c : Codes Code). c.list) (ok_same v.codes (codesBefore p) (sym seen.codes ∙ (before-first p fit).read)) ∙ code-before p fit h
+  list-was : v.codes.list ≡ codes_front p ++ (nop bits32 ∷ codes_behind p)
+  list-was = ap (λ (c : Codes Code). c.list) (ok_same v.codes (codes_before p) (sym seen.codes ∙ (before-first p fit).read)) ∙ code-before p fit h
 
-  abbrev placed : Placed (smaller p) v (prologueCodes p)
-  placed = record { front = codesFront p; was = list-was; is = code-after p fit h; fragment = packedFragment p; prologue = seen.prologue }
+  abbrev placed : Placed (smaller p) v (prologue_codes p)
+  placed = record { front = codes_front p; was = list-was; is = code-after p fit h; fragment = packed_fragment p; prologue = seen.prologue }
 
   abbrev u : View Code
-  u = record { codes = prologueCodes p; prologue = v.prologue - 2; epilogues = v.epilogues }
+  u = record { codes = prologue_codes p; prologue = v.prologue - 2; epilogues = v.epilogues }
 
-  same-epilogues : epilogues size codesAt (shapeWith p (written p)) (shapeWith p (written p)).scopes ≡ ok v.epilogues
+  same-epilogues : epilogues size codes_at (shape_with p (written p)) (shape_with p (written p)).scopes ≡ ok v.epilogues
   same-epilogues =
-      epilogue-by p (written p) (writtenBefore p) (epilogueCodes p) (eqb p.ret 3) (λ t. ((holds p fit).second (eqb-false p.ret 3 t)).read)
+      epilogue-by p (written p) (written_before p) (epilogue_codes p) (eqb p.ret 3) (λ t. ((holds p fit).second (eqb-false p.ret 3 t)).read)
       (λ t. (before-second p fit (eqb-false p.ret 3 t)).read)
       ∙ seen.epilogues
 
-  view-now : view size codesAt (shapeWith p (written p)) ≡ ok u
-  view-now = view-resized (smaller p) placed codesAt (shapeWith p (written p)) (holds p fit).first.read same-epilogues refl seen.fit
+  view-now : view size codes_at (shape_with p (written p)) ≡ ok u
+  view-now = view-resized (smaller p) placed codes_at (shape_with p (written p)) (holds p fit).first.read same-epilogues refl seen.fit
 
-  is-now : packedShape w ≡ ok (shapeWith p (written p))
-  is-now = shape-now w ∙ ap (λ t. need t Reserved >> ok (shapeWith p (written p))) a
+  is-now : packed_shape w ≡ ok (shape_with p (written p))
+  is-now = shape-now w ∙ ap (λ t. need t Reserved >> ok (shape_with p (written p))) a
 
-  is-before : shapeBefore w ≡ ok (shapeWith p (writtenBefore p))
-  is-before = shape-before w ∙ ap (λ t. need t Reserved >> ok (shapeWith p (writtenBefore p))) a
+  is-before : shape_before w ≡ ok (shape_with p (written_before p))
+  is-before = shape-before w ∙ ap (λ t. need t Reserved >> ok (shape_with p (written_before p))) a
 
   now-is : (k : Lent) (o : ℕ) (g : Regs) → now k w o g ≡ (todo size executing u o >>= undone k g)
   now-is k o g = ap (λ x. x >>= λ s. within k s o g) is-now ∙ within_by k p (written p) u o g view-now
 
   before-is : (k : Lent) (o : ℕ) (g : Regs) → before k w o g ≡ (todo size executing v o >>= undone k g)
-  before-is k o g = ap (λ x. x >>= λ s. within k s o g) is-before ∙ within_by k p (writtenBefore p) v o g passed
+  before-is k o g = ap (λ x. x >>= λ s. within k s o g) is-before ∙ within_by k p (written_before p) v o g passed
 
-  passes : (packedShape w >>= view size codesAt) ≡ ok u
-  passes = ap (λ x. x >>= view size codesAt) is-now ∙ view-now
+  passes : (packed_shape w >>= view size codes_at) ≡ ok u
+  passes = ap (λ x. x >>= view size codes_at) is-now ∙ view-now
 
   -- a frame now is one before, where what is left to undo comes to the same
   same-frame :
@@ -174,20 +174,20 @@ module _ (w : ℕ) (v : View Code) (h : chainAlone (pushed (fields w)) ≡ true)
     until = λ k o g l. same-frame k o o g (todo-until (smaller p) placed executing (undone k g) (blind p k g) o (omega (arith, l, behind-size p fit h)));
     past = λ k o g l. same-frame k o o g (todo-past (smaller p) placed executing (undone k g) (blind p k g) o l);
     behind = λ k o g l m. same-frame k o (o + 2) g (todo-behind (smaller p) placed executing (undone k g) (blind p k g) o (omega (arith, l, behind-size p fit h)) m);
-    freed = λ o l m. ap (λ x. x >>= λ u. todo size executing u o) passes ∙ todo-freed (smaller p) placed executing (packedSpan p) o seen.fit l m;
+    freed = λ o l m. ap (λ x. x >>= λ u. todo size executing u o) passes ∙ todo-freed (smaller p) placed executing (packed_span p) o seen.fit l m;
   }
 
-moved : (w : ℕ) (v : View Code) → chainAlone (pushed (fields w)) ≡ true → (shapeBefore w >>= view size codesAt) ≡ ok v → Moved w v
+moved : (w : ℕ) (v : View Code) → chain_alone (pushed (fields w)) ≡ true → (shape_before w >>= view size codes_at) ≡ ok v → Moved w v
 moved w v h e =
-    let b = bind_ok (shapeBefore w) (view size codesAt) v e in
-    let c = need-ok (allowed (fields w)) Reserved (ok (shapeWith (fields w) (writtenBefore (fields w)))) b.0 (sym (shape-before w) ∙ b.1) in
-    moved_by w v h c.0 (ap (view size codesAt) (ok_same _ _ c.1) ∙ b.2)
+    let b = bind_ok (shape_before w) (view size codes_at) v e in
+    let c = need-ok (allowed (fields w)) Reserved (ok (shape_with (fields w) (written_before (fields w)))) b.0 (sym (shape-before w) ∙ b.1) in
+    moved_by w v h c.0 (ap (view size codes_at) (ok_same _ _ c.1) ∙ b.2)
 
 -- ---- a word that was refused
 -- where both lists are read, by 7
 layout-only :
-    (s : Shape) (c : Codes Code) (es : List (EpilogueOf Code)) (r : Refusal) → codesAt s.codes (codeBytes 0) ≡ ok c → epilogues size codesAt s s.scopes ≡ ok es
-    → view size codesAt s ≡ refuse r
+    (s : Shape) (c : Codes Code) (es : List (EpilogueOf Code)) (r : Refusal) → codes_at s.codes (code_bytes 0) ≡ ok c → epilogues size codes_at s s.scopes ≡ ok es
+    → view size codes_at s ≡ refuse r
     → r ≡ BadLayout
 unfolding view
 layout-only s c es r a b h =
@@ -199,27 +199,27 @@ layout-only s c es r a b h =
     go false v q = cc
 
 epilogue-some :
-    (p : Packed) (c : CodesOf) (e : Codes Code) (t : Bool) → (t ≡ false → codesAt c.bytes c.first ≡ ok e)
-    → (es : List (EpilogueOf Code)) × (epilogues size codesAt (shapeWith p c) (if t then [] else lastScope c.first ∷ []) ≡ ok es)
+    (p : Packed) (c : CodesOf) (e : Codes Code) (t : Bool) → (t ≡ false → codes_at c.bytes c.first ≡ ok e)
+    → (es : List (EpilogueOf Code)) × (epilogues size codes_at (shape_with p c) (if t then [] else last_scope c.first ∷ []) ≡ ok es)
 unfolding epilogues
 epilogue-some p c e true q = ([], refl)
 epilogue-some p c e false q =
-    let n : ℕ = total size e.list + e.endSize in
-    (record { start = packedSpan p - n; size = n; condition = always; codes = e } ∷ [], rw (q refl) refl)
+    let n : ℕ = total size e.list + e.end_size in
+    (record { start = packed_span p - n; size = n; condition = always; codes = e } ∷ [], rw (q refl) refl)
 
 refused :
-    (w : ℕ) (r : Refusal) → chainAlone (pushed (fields w)) ≡ true → (shapeBefore w >>= view size codesAt) ≡ refuse r
-    → (r ≡ BadLayout) ⊎ ((packedShape w >>= view size codesAt) ≡ refuse r)
-refused w r h e = go (allowed (fields w)) (ap (λ x. x >>= view size codesAt) (sym (shape-before w)) ∙ e) (shape-now w)
+    (w : ℕ) (r : Refusal) → chain_alone (pushed (fields w)) ≡ true → (shape_before w >>= view size codes_at) ≡ refuse r
+    → (r ≡ BadLayout) ⊎ ((packed_shape w >>= view size codes_at) ≡ refuse r)
+refused w r h e = go (allowed (fields w)) (ap (λ x. x >>= view size codes_at) (sym (shape-before w)) ∙ e) (shape-now w)
   where
     go :
-        (t : Bool) → ((need t Reserved >> ok (shapeWith (fields w) (writtenBefore (fields w)))) >>= view size codesAt) ≡ refuse r
-        → packedShape w ≡ (need t Reserved >> ok (shapeWith (fields w) (written (fields w))))
-        → (r ≡ BadLayout) ⊎ ((packedShape w >>= view size codesAt) ≡ refuse r)
+        (t : Bool) → ((need t Reserved >> ok (shape_with (fields w) (written_before (fields w)))) >>= view size codes_at) ≡ refuse r
+        → packed_shape w ≡ (need t Reserved >> ok (shape_with (fields w) (written (fields w))))
+        → (r ≡ BadLayout) ⊎ ((packed_shape w >>= view size codes_at) ≡ refuse r)
     go true q n =
-        let es = epilogue-some (fields w) (writtenBefore (fields w)) (epilogueCodes (fields w)) (eqb (fields w).ret 3) (λ t. (before-second (fields w) (fields_fit w) (eqb-false (fields w).ret 3 t)).read) in
-        inl (layout-only (shapeWith (fields w) (writtenBefore (fields w))) (codesBefore (fields w)) es.0 r (before-first (fields w) (fields_fit w)).read es.1 q)
-    go false q n = inr (ap (λ x. x >>= view size codesAt) n ∙ q)
+        let es = epilogue-some (fields w) (written_before (fields w)) (epilogue_codes (fields w)) (eqb (fields w).ret 3) (λ t. (before-second (fields w) (fields_fit_lem w) (eqb-false (fields w).ret 3 t)).read) in
+        inl (layout-only (shape_with (fields w) (written_before (fields w))) (codes_before (fields w)) es.0 r (before-first (fields w) (fields_fit_lem w)).read es.1 q)
+    go false q n = inr (ap (λ x. x >>= view size codes_at) n ∙ q)
 
 pub order4 : Order4
 order4 = record {

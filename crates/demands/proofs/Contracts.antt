@@ -16,14 +16,14 @@ use prog.Memory.{Memory}
 use prog.Routine.{Routine}
 use denote.Triple.Clauses.{AtExit}
 use Rattle.lent.specs.Lent.{lent}
-use Rattle.words.specs.Refusals.{verdictNumber}
+use Rattle.words.specs.Refusals.{verdict_number}
 use Rattle.frame.specs.Frame.{Inputs, inputs}
-use Rattle.walking.specs.Walk.{Trail, walk, walked, filled, walkedAll}
+use Rattle.walking.specs.Walk.{Trail, walk, walked, filled, walked_all}
 use Rattle.walking.specs.declared.WalkedAll.{WalkedAll}
 use Rattle.walking.specs.contracts.walk as Walk
 use Rattle.text.specs.Overlay.{overlay}
-use Rattle.report.specs.as_coded.Parts.{parts}
-use Rattle.fit_file.specs.as_coded.Parts as FitParts
+use Rattle.report.specs.AsCoded.Parts.{parts}
+use Rattle.fit_file.specs.AsCoded.Parts as FitParts
 use Rattle.pdata.proofs.find.Kinds as Find·kinds
 use Rattle.pdata.proofs.find.Reads as Find
 use Rattle.frame.proofs.unwind.Kinds as Unwind·kinds
@@ -66,11 +66,11 @@ use Rattle.exports.proofs.leafbobbin_word.Kinds as CWord·kinds
 use Rattle.exports.proofs.leafbobbin_word.Reads as CWord
 use Rattle.exports.proofs.leafbobbin_codes.Kinds as CCodes·kinds
 use Rattle.exports.proofs.leafbobbin_codes.Reads as CCodes
-use Rattle.regions.specs.as_coded.Table.{table_of, listedIn}
+use Rattle.regions.specs.AsCoded.Table.{table_of, listed_in}
 use Rattle.regions.proofs.Tables.{table-listed}
-use Rattle.demands.specs.Regions.{oursOfRegions}
-use Rattle.demands.specs.Fitting.{oursOfFits}
-use Rattle.exports.specs.Numbers.{foundNumbers, foundRefusal, fieldsIn, lengths}
+use Rattle.demands.specs.Regions.{ours_of_regions}
+use Rattle.demands.specs.Fitting.{ours_of_fits}
+use Rattle.exports.specs.Numbers.{found_numbers, found_refusal, fields_in, lengths}
 use Rattle.forward.specs.State.{State}
 use Rattle.forward.specs.Demand.{Asked, Answer, Demand3}
 use Rattle.forward.proofs.Memory.{outside-same}
@@ -122,7 +122,7 @@ unwind-finds κs a z e p entry here h q =
 abbrev pub walk-all : Contract
 walk-all = record { lifetimes = 3; params = WalkAll·kinds.ps; result = WalkAll·kinds.r; asks = WalkAll.Asked; free = λ κs a. tt; allows = WalkAll.Learnt; Left = Unit {0}; left = λ κs e. tt }
 
-pub walk-all-gives : Gives walk-all (λ κs a. walkedAll a.1.1.1.1.1.1.1.0 (walk (inputs a.0 a.1.0.now a.1.1.0 a.1.1.1.0.now a.1.1.1.1.0 a.1.1.1.1.1.0.now) 256 a.1.1.1.1.1.1.0)) (λ κs a. tt)
+pub walk-all-gives : Gives walk-all (λ κs a. walked_all a.1.1.1.1.1.1.1.0 (walk (inputs a.0 a.1.0.now a.1.1.0 a.1.1.1.0.now a.1.1.1.1.0 a.1.1.1.1.1.0.now) 256 a.1.1.1.1.1.1.0)) (λ κs a. tt)
 walk-all-gives κs a z e p = (p, refl)
 
 pub walk-all-unique : Unique walk-all
@@ -196,12 +196,12 @@ regions-unique = unique regions _ _ regions-gives
 -- the table given lists the regions that our reader lists
 pub regions-list :
     (κs : Lfts 1) (a : Dens κs Table·kinds.ps) (z : (res_t Table·kinds.r κs).Denot) (e : AtExit (ended_of 1 Table·kinds.ps Table·kinds.r) κs) → regions.allows κs a z e
-    → listedIn a.1.0.now z ≡ oursOfRegions.regions (lent a.0 a.1.0.now) a.1.1.0
+    → listed_in a.1.0.now z ≡ ours_of_regions.regions (lent a.0 a.1.0.now) a.1.1.0
 regions-list κs a z e p =
-    ap (listedIn a.1.0.now) p.0 ∙ table-listed (lent a.0 a.1.0.now) a.1.1.0
+    ap (listed_in a.1.0.now) p.0 ∙ table-listed (lent a.0 a.1.0.now) a.1.1.0
 
 abbrev lines-text : (κs : Lfts 2) → Dens κs Lines·kinds.ps → List ℕ
-lines-text κs a = oursOfRegions.lines (lent a.1.1.0 a.1.1.1.0.now) a.1.1.1.1.0 a.1.1.1.1.1.0
+lines-text κs a = ours_of_regions.lines (lent a.1.1.0 a.1.1.1.0.now) a.1.1.1.1.0 a.1.1.1.1.1.0
 
 abbrev pub lines : Contract
 lines = record { lifetimes = 2; params = Lines·kinds.ps; result = Lines·kinds.r; asks = Lines.Asked; free = λ κs a. tt; allows = Lines.Learnt; Left = List ℕ; left = λ κs e. e.0.now }
@@ -215,7 +215,7 @@ lines-unique = unique lines _ _ lines-gives
 abbrev pub outline : Contract
 outline = record { lifetimes = 2; params = Outline·kinds.ps; result = Outline·kinds.r; asks = Outline.Asked; free = λ κs a. tt; allows = Outline.Learnt; Left = List ℕ; left = λ κs e. e.1.0.now }
 
-pub outline-gives : Gives outline (λ κs a. length (oursOfRegions.outline a.0.now)) (λ κs a. overlay a.1.0.now 0 (oursOfRegions.outline a.0.now))
+pub outline-gives : Gives outline (λ κs a. length (ours_of_regions.outline a.0.now)) (λ κs a. overlay a.1.0.now 0 (ours_of_regions.outline a.0.now))
 outline-gives κs a z e p = p.0
 
 pub outline-unique : Unique outline
@@ -225,7 +225,7 @@ outline-unique = unique outline _ _ outline-gives
 abbrev pub fits : Contract
 fits = record { lifetimes = 2; params = Fits·kinds.ps; result = Fits·kinds.r; asks = Fits.Asked; free = λ κs a. tt; allows = Fits.Learnt; Left = Unit {0}; left = λ κs e. tt }
 
-pub fits_gives : Gives fits (λ κs a. oursOfFits.fits (lent a.0 a.1.0.now) a.1.1.0 a.1.1.1.0.now) (λ κs a. tt)
+pub fits_gives : Gives fits (λ κs a. ours_of_fits.fits (lent a.0 a.1.0.now) a.1.1.0 a.1.1.1.0.now) (λ κs a. tt)
 fits_gives κs a z e p = (p, refl)
 
 pub fits-unique : Unique fits
@@ -243,7 +243,7 @@ read-fit-unique = unique read-fit _ _ read-fit-gives
 abbrev pub fits-text : Contract
 fits-text = record { lifetimes = 2; params = FitsText·kinds.ps; result = FitsText·kinds.r; asks = FitsText.Asked; free = λ κs a. tt; allows = FitsText.Learnt; Left = List ℕ; left = λ κs e. e.1.0.now }
 
-pub fits-text-gives : Gives fits-text (λ κs a. length (oursOfFits.text a.0.now)) (λ κs a. overlay a.1.0.now 0 (oursOfFits.text a.0.now))
+pub fits-text-gives : Gives fits-text (λ κs a. length (ours_of_fits.text a.0.now)) (λ κs a. overlay a.1.0.now 0 (ours_of_fits.text a.0.now))
 fits-text-gives κs a z e p = p.0
 
 pub fits-text-unique : Unique fits-text
@@ -272,7 +272,7 @@ c-caller-unique = unique c-caller _ _ c-caller-gives
 abbrev pub c-find : Contract
 c-find = record { lifetimes = 2; params = CFind·kinds.ps; result = CFind·kinds.r; asks = CFind.Asked; free = λ κs a. tt; allows = CFind.Learnt; Left = List ℕ; left = λ κs e. e.1.1.1.0.now }
 
-pub c-find-gives : Gives c-find (λ κs a. foundRefusal (ours.find a.0 a.1.0.now a.1.1.0)) (λ κs a. foundNumbers (ours.find a.0 a.1.0.now a.1.1.0))
+pub c-find-gives : Gives c-find (λ κs a. found_refusal (ours.find a.0 a.1.0.now a.1.1.0)) (λ κs a. found_numbers (ours.find a.0 a.1.0.now a.1.1.0))
 c-find-gives κs a z e p = p
 
 pub c-find-unique : Unique c-find
@@ -281,7 +281,7 @@ c-find-unique = unique c-find _ _ c-find-gives
 abbrev pub c-size : Contract
 c-size = record { lifetimes = 2; params = CSize·kinds.ps; result = CSize·kinds.r; asks = CSize.Asked; free = λ κs a. tt; allows = CSize.Learnt; Left = ℕ; left = λ κs e. e.1.1.1.0.now }
 
-pub c-size-gives : Gives c-size (λ κs a. verdictNumber (ours.size (lent a.0 a.1.0.now) a.1.1.0).verdict) (λ κs a. (ours.size (lent a.0 a.1.0.now) a.1.1.0).bytes)
+pub c-size-gives : Gives c-size (λ κs a. verdict_number (ours.size (lent a.0 a.1.0.now) a.1.1.0).verdict) (λ κs a. (ours.size (lent a.0 a.1.0.now) a.1.1.0).bytes)
 c-size-gives κs a z e p = p
 
 pub c-size-unique : Unique c-size
@@ -290,7 +290,7 @@ c-size-unique = unique c-size _ _ c-size-gives
 abbrev pub c-word : Contract
 c-word = record { lifetimes = 2; params = CWord·kinds.ps; result = CWord·kinds.r; asks = CWord.Asked; free = λ κs a. tt; allows = CWord.Learnt; Left = ℕ; left = λ κs e. e.1.0.now }
 
-pub c-word-gives : Gives c-word (λ κs a. verdictNumber (ours.word (fieldsIn a.0.now)).verdict) (λ κs a. (ours.word (fieldsIn a.0.now)).word)
+pub c-word-gives : Gives c-word (λ κs a. verdict_number (ours.word (fields_in a.0.now)).verdict) (λ κs a. (ours.word (fields_in a.0.now)).word)
 c-word-gives κs a z e p = p
 
 pub c-word-unique : Unique c-word
@@ -299,7 +299,7 @@ c-word-unique = unique c-word _ _ c-word-gives
 abbrev pub c-codes : Contract
 c-codes = record { lifetimes = 2; params = CCodes·kinds.ps; result = CCodes·kinds.r; asks = CCodes.Asked; free = λ κs a. tt; allows = CCodes.Learnt; Left = List ℕ × List ℕ; left = λ κs e. (e.1.0.now, e.1.1.0.now) }
 
-pub c-codes-gives : Gives c-codes (λ κs a. verdictNumber (ours.codes a.0).verdict) (λ κs a. ((ours.codes a.0).bytes, lengths (ours.codes a.0)))
+pub c-codes-gives : Gives c-codes (λ κs a. verdict_number (ours.codes a.0).verdict) (λ κs a. ((ours.codes a.0).bytes, lengths (ours.codes a.0)))
 c-codes-gives κs a z e p = (p.0, rw (p.1, p.2) refl)
 
 pub c-codes-unique : Unique c-codes

@@ -8,8 +8,8 @@ use lib.ListN.{replicate}
 use native.Mathlib.Omega.{arith}
 use borrow.Author.Tests.{eq-eqb, le-leb, lt-ltb}
 use Rattle.words.specs.Bits.{bit, even}
-use Rattle.lent.specs.Lent.{Lent, end, wordAt}
-use Rattle.words.specs.Units.{halfwords, stack_words, codeBytes, stackBytes}
+use Rattle.lent.specs.Lent.{Lent, end, word_at}
+use Rattle.words.specs.Units.{halfwords, stack_words, code_bytes, stack_bytes}
 use Rattle.words.specs.declared.Place.{Place}
 use Rattle.words.specs.declared.Place.TheVariants.{Leaf, Prologue, Body, Epilogue}
 use Rattle.words.specs.declared.Refusal.TheVariants.{InsideInstruction, BadStack}
@@ -21,17 +21,17 @@ use Rattle.unwinding.specs.View.{view}
 use Rattle.unwinding.specs.Todo.{Todo, todo}
 use Rattle.codes.specs.declared.Code.{Code}
 use Rattle.codes.specs.declared.Undo.TheVariants.{Up, Pop, SpFrom}
-use Rattle.codes.specs.Code.{size, codesAt}
+use Rattle.codes.specs.Code.{size, codes_at}
 use Rattle.codes.specs.Condition.{executing}
 use Rattle.machine.specs.declared.Regs.{Regs}
-use Rattle.machine.specs.Registers.{reg, setReg, setSp}
-use Rattle.machine.specs.Step.{stands, load, popReg, pop, step}
+use Rattle.machine.specs.Registers.{reg, set_reg, set_sp}
+use Rattle.machine.specs.Step.{stands, load, pop_reg, pop, step}
 use Rattle.pdata.specs.Pdata.{find}
 use Rattle.packed.specs.Packed.{fields, amount, folded, PF, EF}
-use Rattle.packed_codes.specs.PackedCodes.{writeCodes}
-use Rattle.xdata.specs.Xdata.{xdataSize}
-use Rattle.record.specs.Record.{packedShape, fullShape}
-use Rattle.frame.specs.Frame.{Inputs, Caller, fitStack, returned, within, frame, unwound}
+use Rattle.packed_codes.specs.PackedCodes.{write_codes}
+use Rattle.xdata.specs.Xdata.{xdata_size}
+use Rattle.record.specs.Record.{packed_shape, full_shape}
+use Rattle.frame.specs.Frame.{Inputs, Caller, fit_stack, returned, within, frame, unwound}
 use Rattle.walking.specs.Walk.{walk}
 use Rattle.walking.specs.declared.Stop.TheVariants.{End}
 use Rattle.report.specs.Report.{report, mark}
@@ -48,15 +48,15 @@ use Rattle.forward.proofs.Examples.{own, shape, views, known, framed}
 abbrev c02 : Code
 c02 = record { undo = Up (stack_words 2); size = halfwords 1 }
 
-abbrev cD5 : Code
-cD5 = record { undo = Pop (2 ^ 4 + 2 ^ 5 + 2 ^ 14); size = halfwords 1 }
+abbrev c_d5 : Code
+c_d5 = record { undo = Pop (2 ^ 4 + 2 ^ 5 + 2 ^ 14); size = halfwords 1 }
 
 abbrev packed : Res Shape
-packed = packedShape 0x00910041
+packed = packed_shape 0x00910041
 
 packed-codes :
-    writeCodes 0x00910041
-    ≡ ok (record { verdict = Given; bytes = 0x02 ∷ 0xD5 ∷ 0xFF ∷ 0x02 ∷ 0xD5 ∷ 0xFF ∷ replicate 10 0; first = codeBytes 3; second = codeBytes 3 })
+    write_codes 0x00910041
+    ≡ ok (record { verdict = Given; bytes = 0x02 ∷ 0xD5 ∷ 0xFF ∷ 0x02 ∷ 0xD5 ∷ 0xFF ∷ replicate 10 0; first = code_bytes 3; second = code_bytes 3 })
 unfolding opened
 packed-codes = refl
 
@@ -65,19 +65,19 @@ packed-0 : at packed 0 ≡ says Prologue []
 unfolding opened
 packed-0 = refl
 
-packed-2 : at packed 2 ≡ says Prologue (cD5 ∷ [])
+packed-2 : at packed 2 ≡ says Prologue (c_d5 ∷ [])
 unfolding opened
 packed-2 = refl
 
-packed-4 : at packed 4 ≡ says Body (c02 ∷ cD5 ∷ [])
+packed-4 : at packed 4 ≡ says Body (c02 ∷ c_d5 ∷ [])
 unfolding opened
 packed-4 = refl
 
-packed-1C : at packed 0x1C ≡ says Epilogue (c02 ∷ cD5 ∷ [])
+packed-1C : at packed 0x1C ≡ says Epilogue (c02 ∷ c_d5 ∷ [])
 unfolding opened
 packed-1C = refl
 
-packed-1E : at packed 0x1E ≡ says Epilogue (cD5 ∷ [])
+packed-1E : at packed 0x1E ≡ says Epilogue (c_d5 ∷ [])
 unfolding opened
 packed-1E = refl
 
@@ -86,18 +86,18 @@ abbrev xdata : Lent
 xdata = record { base = 0x3000; bytes = bytes_of (0x102000A5 ∷ 0xFD04DDC7 ∷ []) }
 
 abbrev full : Res Shape
-full = fullShape xdata 0x3000
+full = full_shape xdata 0x3000
 
-abbrev cC7 : Code
-cC7 = record { undo = SpFrom 7; size = halfwords 1 }
+abbrev c_c7 : Code
+c_c7 = record { undo = SpFrom 7; size = halfwords 1 }
 
-abbrev cDD : Code
-cDD = record { undo = Pop (0x3F0 + 2 ^ 14); size = halfwords 2 }
+abbrev c_dd : Code
+c_dd = record { undo = Pop (0x3F0 + 2 ^ 14); size = halfwords 2 }
 
 abbrev c04 : Code
 c04 = record { undo = Up (stack_words 4); size = halfwords 1 }
 
-full_size : xdataSize xdata 0x3000 ≡ ok 8
+full_size : xdata_size xdata 0x3000 ≡ ok 8
 unfolding opened
 full_size = refl
 
@@ -110,11 +110,11 @@ full-4 : at full 4 ≡ refuse InsideInstruction
 unfolding opened
 full-4 = refl
 
-full-8 : at full 8 ≡ says Body (cC7 ∷ cDD ∷ c04 ∷ [])
+full-8 : at full 8 ≡ says Body (c_c7 ∷ c_dd ∷ c04 ∷ [])
 unfolding opened
 full-8 = refl
 
-full-142 : at full 0x142 ≡ says Epilogue (cDD ∷ c04 ∷ [])
+full-142 : at full 0x142 ≡ says Epilogue (c_dd ∷ c04 ∷ [])
 unfolding opened
 full-142 = refl
 
@@ -123,7 +123,7 @@ unfolding opened
 full-148 = refl
 
 -- Stack Adjust where folding begins, and below (RULES 4.20)
-adjust-3F3 : (stackBytes (amount (fields (0x3F3 * 2 ^ 22))) ≡ 4044) × (folded (fields (0x3F3 * 2 ^ 22)) ≡ false)
+adjust-3F3 : (stack_bytes (amount (fields (0x3F3 * 2 ^ 22))) ≡ 4044) × (folded (fields (0x3F3 * 2 ^ 22)) ≡ false)
 adjust-3F3 = (refl, refl)
 
 adjust-3F4 :
@@ -187,14 +187,14 @@ packed-2-frame = refl
 abbrev sevens : Regs
 sevens = record { r = replicate 7 0 ++ (0x20004 ∷ replicate 5 0); sp = 0x20000; lr = 0; pc = 0x00401008; d = replicate 32 0 }
 
-abbrev fullOn : Lent → Inputs
-fullOn k = record { image = 0x00400000; pdata = bytes_of (0x1000 ∷ 0x3000 ∷ []); xdata = xdata; stack = k }
+abbrev full_on : Lent → Inputs
+full_on k = record { image = 0x00400000; pdata = bytes_of (0x1000 ∷ 0x3000 ∷ []); xdata = xdata; stack = k }
 
-abbrev fullInputs : Inputs
-fullInputs = fullOn (record { base = 0x20000; bytes = bytes_of (1 ∷ 4 ∷ 5 ∷ 6 ∷ 7 ∷ 8 ∷ 9 ∷ 0x401235 ∷ 0 ∷ 0 ∷ 0 ∷ 0 ∷ []) })
+abbrev full_inputs : Inputs
+full_inputs = full_on (record { base = 0x20000; bytes = bytes_of (1 ∷ 4 ∷ 5 ∷ 6 ∷ 7 ∷ 8 ∷ 9 ∷ 0x401235 ∷ 0 ∷ 0 ∷ 0 ∷ 0 ∷ []) })
 
 full-8-frame :
-    frame fullInputs sevens
+    frame full_inputs sevens
     ≡ ok
     (record { regs = record { r = 0 ∷ 0 ∷ 0 ∷ 0 ∷ 4 ∷ 5 ∷ 6 ∷ 7 ∷ 8 ∷ 9 ∷ 0 ∷ 0 ∷ 0 ∷ []; sp = 0x20004 + 44; lr = 0x401235; pc = 0x401234; d = replicate 32 0 }; place = Body; handler = 0; codes = 3 })
 unfolding opened
@@ -203,14 +203,14 @@ full-8-frame = refl
 -- the SP of RULES 5.12 at offset 8, for every r7 that is divisible by 4 and from which the loads stay in a stack that passes 1, in which
 -- the given SP stands, not above the caller's
 pub record Sevens (k : Lent) (g : Regs) : Type 0 where
-  pub fit : fitStack k ≡ true
+  pub fit : fit_stack k ≡ true
   pub pc : g.pc ≡ 0x00401008
   pub aligned : reg g 7 % 4 ≡ 0
   pub low : k.base ≤ reg g 7
   pub high : reg g 7 + 44 ≤ end k
-  pub spAligned : g.sp % 4 ≡ 0
-  pub spLow : k.base ≤ g.sp
-  pub spHigh : g.sp ≤ reg g 7 + 44
+  pub sp_aligned : g.sp % 4 ≡ 0
+  pub sp_low : k.base ≤ g.sp
+  pub sp_high : g.sp ≤ reg g 7 + 44
 
 -- it answers, and SP moves up by n
 record Moves (act : Regs → Res Regs) (g : Regs) (n : ℕ) : Type 0 where
@@ -218,7 +218,7 @@ record Moves (act : Regs → Res Regs) (g : Regs) (n : ℕ) : Type 0 where
   runs : act g ≡ ok next
   sp : next.sp ≡ g.sp + n
 
-module _ (k : Lent) (fit : fitStack k ≡ true) where
+module _ (k : Lent) (fit : fit_stack k ≡ true) where
   standing : (a : ℕ) → a % 4 ≡ 0 → k.base ≤ a → a ≤ end k → stands k a ≡ true
   standing a h low high =
       let q : a < 2 ^ 32 = omega (arith, stack-end k fit) in
@@ -229,10 +229,10 @@ module _ (k : Lent) (fit : fitStack k ≡ true) where
   count l zero = 0
   count l (suc n) = count l n + (if bit n l then 1 else 0)
 
-  moves-one : (t : Bool) (x : ℕ) (g : Regs) → k.base ≤ g.sp → g.sp + 4 * (if t then 1 else 0) ≤ end k → Moves (λ h. if t then popReg k x h else ok h) g (4 * (if t then 1 else 0))
-  unfolding load popReg
+  moves-one : (t : Bool) (x : ℕ) (g : Regs) → k.base ≤ g.sp → g.sp + 4 * (if t then 1 else 0) ≤ end k → Moves (λ h. if t then pop_reg k x h else ok h) g (4 * (if t then 1 else 0))
+  unfolding load pop_reg
   moves-one true x g b h =
-      record { next = setSp (setReg g x (wordAt k g.sp)) (g.sp + 4); runs = rw (le-leb k.base g.sp b, le-leb (g.sp + 4) (end k) h) refl; sp = refl }
+      record { next = set_sp (set_reg g x (word_at k g.sp)) (g.sp + 4); runs = rw (le-leb k.base g.sp b, le-leb (g.sp + 4) (end k) h) refl; sp = refl }
   moves-one false x g b h = record { next = g; runs = refl; sp = omega arith }
 
   moves-pop : (l n : ℕ) (g : Regs) → k.base ≤ g.sp → g.sp + 4 * count l n ≤ end k → Moves (λ h. pop k l n h) g (4 * count l n)
@@ -243,29 +243,29 @@ module _ (k : Lent) (fit : fitStack k ≡ true) where
       let j = moves-one (bit n l) n i.next (omega (arith, i.sp)) (omega (arith, i.sp)) in
       record {
         next = j.next;
-        runs = ap (λ x. x >>= λ h. if bit n l then popReg k n h else ok h) i.runs ∙ j.runs;
+        runs = ap (λ x. x >>= λ h. if bit n l then pop_reg k n h else ok h) i.runs ∙ j.runs;
         sp = omega (arith, i.sp, j.sp);
       }
 
   -- C7 DD 04
-  moves-all : (g : Regs) → reg g 7 % 4 ≡ 0 → k.base ≤ reg g 7 → reg g 7 + 44 ≤ end k → (h : Regs) × (run (step k) (cC7 ∷ cDD ∷ c04 ∷ []) g ≡ ok h) × (h.sp ≡ reg g 7 + 44)
+  moves-all : (g : Regs) → reg g 7 % 4 ≡ 0 → k.base ≤ reg g 7 → reg g 7 + 44 ≤ end k → (h : Regs) × (run (step k) (c_c7 ∷ c_dd ∷ c04 ∷ []) g ≡ ok h) × (h.sp ≡ reg g 7 + 44)
   unfolding run step count
   moves-all g al low high =
       let a : ℕ = reg g 7 in
-      let i = moves-pop (0x3F0 + 2 ^ 14) 15 (setSp g a) low (omega arith) in
+      let i = moves-pop (0x3F0 + 2 ^ 14) 15 (set_sp g a) low (omega arith) in
       let p : i.next.sp ≡ a + 28 = i.sp in
       let last : i.next.sp + 16 ≡ a + 44 = omega arith in (
-        setSp i.next (i.next.sp + 16),
+        set_sp i.next (i.next.sp + 16),
         rw (standing a al low (omega arith), i.runs, standing i.next.sp (omega arith) (omega arith) (omega arith), standing (i.next.sp + 16) (omega arith) (omega arith) (omega arith)) refl,
         last,
       )
 
 -- what the record says there
-all_three : todo size executing (views framed) 8 ≡ says Body (cC7 ∷ cDD ∷ c04 ∷ [])
+all_three : todo size executing (views framed) 8 ≡ says Body (c_c7 ∷ c_dd ∷ c04 ∷ [])
 unfolding opened
 all_three = refl
 
-full-8-here : At (fullOn (record { base = 0; bytes = [] })) (own framed) (shape framed) (views framed) 0x00401008 8
+full-8-here : At (full_on (record { base = 0; bytes = [] })) (own framed) (shape framed) (views framed) 0x00401008 8
 unfolding opened
 full-8-here = known framed 8 refl (omega arith)
 
@@ -276,19 +276,19 @@ full-8-within : (k : Lent) (g : Regs) → Sevens k g → (c : Caller) × (within
 unfolding within
 full-8-within k g s =
     let m = moves-all k s.fit g s.aligned s.low s.high in
-    let up : g.sp ≤ m.0.sp = omega (arith, s.spHigh, m.2) in (
+    let up : g.sp ≤ m.0.sp = omega (arith, s.sp_high, m.2) in (
       record { regs = returned m.0; place = Body; handler = (shape framed).handler; codes = 3 },
       rw (full-8-here.passes6-7, all_three, m.1, le-leb _ _ up) refl,
       (refl, refl, m.2),
     )
 
-pub full-8-law : (k : Lent) (g : Regs) → Sevens k g → (c : Caller) × (frame (fullOn k) g ≡ ok c) × AllThree g c
+pub full-8-law : (k : Lent) (g : Regs) → Sevens k g → (c : Caller) × (frame (full_on k) g ≡ ok c) × AllThree g c
 full-8-law k g s =
     let w = full-8-within k g s in
     let at = full-8-here in (
       w.0,
-      passed (fullOn k) k g (own framed) (shape framed) 8 w.0 s.fit at.passes1 (ap (find 0x00400000 (fullOn k).pdata) s.pc ∙ at.found)
-          (standing k s.fit g.sp s.spAligned s.spLow (omega (arith, s.spHigh, s.high)))
+      passed (full_on k) k g (own framed) (shape framed) 8 w.0 s.fit at.passes1 (ap (find 0x00400000 (full_on k).pdata) s.pc ∙ at.found)
+          (standing k s.fit g.sp s.sp_aligned s.sp_low (omega (arith, s.sp_high, s.high)))
           at.passes4-5
           (at.here ∙ ap (λ x. even x - 0x00400000 - 0x1000) (sym s.pc))
           at.covers

@@ -16,7 +16,7 @@ use Rattle.words.specs.declared.Refusal.TheVariants.{UnfitInput, PcBelowBase, St
 use Rattle.words.proofs.Tests.{both}
 use Rattle.words.specs.Answer.{Res, ok, ◌>>◌, need, if◌then◌else◌, maybe}
 use Rattle.unwinding.specs.View.{ascending}
-use Rattle.pdata.specs.Pdata.{entriesFrom, entries, entry_at, starts, lastUpTo, find, found, findRva}
+use Rattle.pdata.specs.Pdata.{entries_from, entries, entry_at, starts, last_up_to, find, found, find_rva}
 use Rattle.pdata.specs.declared.Entry.{Entry}
 use Rattle.pdata.specs.declared.Found.{Found}
 use Rattle.pdata.specs.declared.Found.TheVariants.{Record, Nothing, Refused}
@@ -28,7 +28,7 @@ use Rattle.demands.specs.Shams.{first-only}
 use Rattle.demands.proofs.Examples as Example
 
 abbrev Ascends : List ℕ → (i n : ℕ) → Type 0
-Ascends s i n = ascending (map (λ e. e.start) (entriesFrom s i n)) ≡ true
+Ascends s i n = ascending (map (λ e. e.start) (entries_from s i n)) ≡ true
 
 -- what holds of a number and of the n after it holds of all n + 1
 from : (P : ℕ → Type 0) (i n : ℕ) → P i → ((j : ℕ) → i + 1 ≤ j → j < i + 1 + n → P j) → (j : ℕ) → i ≤ j → j < i + suc n → P j
@@ -39,16 +39,16 @@ from P i n first rest j lo hi = go (ltb i j) refl
     go false q = let e : i ≡ j = omega (arith, lo, ltb-false i j q) in subst P e first
 
 ascends-on : (s : List ℕ) (i n : ℕ) → Ascends s i (suc n) → Ascends s (i + 1) n
-unfolding entriesFrom
+unfolding entries_from
 ascends-on s i zero up = refl
-ascends-on s i (suc n) up = (both (ltb (start_at s i) (start_at s (i + 1))) (ascending (map (λ e. e.start) (entriesFrom s (i + 1) (suc n)))) up).1
+ascends-on s i (suc n) up = (both (ltb (start_at s i) (start_at s (i + 1))) (ascending (map (λ e. e.start) (entries_from s (i + 1) (suc n)))) up).1
 
 -- the first of n + 1 records has the least start
 least : (s : List ℕ) (n i : ℕ) → Ascends s i (suc n) → (j : ℕ) → i ≤ j → j < i + suc n → start_at s i ≤ start_at s j
-unfolding entriesFrom
+unfolding entries_from
 least s zero i up = from (λ j. start_at s i ≤ start_at s j) i 0 (omega arith) (λ j lo hi. absurd (omega (arith, lo, hi)))
 least s (suc n) i up =
-    let w = both (ltb (start_at s i) (start_at s (i + 1))) (ascending (map (λ e. e.start) (entriesFrom s (i + 1) (suc n)))) up in
+    let w = both (ltb (start_at s i) (start_at s (i + 1))) (ascending (map (λ e. e.start) (entries_from s (i + 1) (suc n)))) up in
     from (λ j. start_at s i ≤ start_at s j) i (suc n) (omega arith)
     (λ j lo hi. omega (arith, ltb-true (start_at s i) (start_at s (i + 1)) w.0, least s n (i + 1) w.1 j lo hi))
 
@@ -64,10 +64,10 @@ abbrev Seen : List ℕ → (a i n : ℕ) → Option Entry → Type 0
 Seen s a i n none = (j : ℕ) → i ≤ j → j < i + n → a < start_at s j
 Seen s a i n (some e) = Best s a i n e
 
-seen : (s : List ℕ) (a n i : ℕ) → Ascends s i n → Seen s a i n (lastUpTo (entriesFrom s i n) a)
-unfolding entriesFrom lastUpTo
+seen : (s : List ℕ) (a n i : ℕ) → Ascends s i n → Seen s a i n (last_up_to (entries_from s i n) a)
+unfolding entries_from last_up_to
 seen s a zero i up = λ j lo hi. absurd (omega (arith, lo, hi))
-seen s a (suc n) i up = more (lastUpTo (entriesFrom s (i + 1) n) a) (seen s a n (i + 1) (ascends-on s i n up))
+seen s a (suc n) i up = more (last_up_to (entries_from s (i + 1) n) a) (seen s a n (i + 1) (ascends-on s i n up))
   where
     here : (t : Bool) → leb (start_at s i) a ≡ t → Seen s a (i + 1) n none → Seen s a i (suc n) (if t then some (entry_at s i) else none)
     here true q none_after = record {
@@ -114,13 +114,13 @@ module _ (image : ℕ) (s : List ℕ) (pc : ℕ) where
   }
 
   lawful : Lawful (found (find image s pc))
-  unfolding find findRva
+  unfolding find find_rva
   lawful =
       after (eqb (length s % 8) 0) UnfitInput _
       (λ w. after (leb image (even pc)) PcBelowBase _
       (λ h. after (eqb (length s % 8) 0) UnfitInput _
       (λ _. after (ascending (starts s)) StartsNotAscending _
-      (λ up. answered (leb-true image (even pc) h) (lastUpTo (entries s) (even pc - image)) (seen s (even pc - image) (length s / 8) 0 up)))))
+      (λ up. answered (leb-true image (even pc) h) (last_up_to (entries s) (even pc - image)) (seen s (even pc - image) (length s / 8) 0 up)))))
 
 pub find-laws : FindLaws ours
 find-laws = record { found = λ image s pc e q. subst (Lawful image s pc) q (lawful image s pc); nothing = λ image s pc q. subst (Lawful image s pc) q (lawful image s pc) }

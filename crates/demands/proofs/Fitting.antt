@@ -11,15 +11,15 @@ use Rattle.words.specs.declared.Refusal.{Refusal}
 use Rattle.words.specs.declared.Refusal.TheVariants.{UnfitInput}
 use Rattle.words.specs.Answer.{Res, ok, refuse, if◌then◌else◌, either}
 use Rattle.lent.specs.Lent.{Lent}
-use Rattle.unwinding.specs.Extent.{ofExtent}
+use Rattle.unwinding.specs.Extent.{of_extent}
 use Rattle.unwinding.specs.Shape.{Shape}
 use Rattle.unwinding.specs.View.{view}
 use Rattle.unwinding.proofs.Staying.{Stays}
-use Rattle.codes.specs.Code.{size, codesAt}
-use Rattle.xdata.specs.Xdata.{fitXdata}
+use Rattle.codes.specs.Code.{size, codes_at}
+use Rattle.xdata.specs.Xdata.{fit_xdata}
 use Rattle.record.specs.Record.{shape_at}
-use Rattle.place.specs.Judged.{viewAt}
-use Rattle.fitting.specs.Fitting.{fitNumber, shapeFitted, fitted}
+use Rattle.place.specs.Judged.{view_at}
+use Rattle.fitting.specs.Fitting.{fit_number, shape_fitted, fitted}
 use Rattle.fitting.specs.Exactly.{Unread}
 use Rattle.fitting.specs.declared.FitRefusal.{FitRefusal}
 use Rattle.fitting.specs.declared.FitRefusal.TheVariants.{Record, Short, Differs}
@@ -31,7 +31,7 @@ use Rattle.executing.specs.Claims.{FitDemand3}
 use Rattle.executing.proofs.Demand as Executing
 use Rattle.demands.specs.Reader.{ours}
 use Rattle.demands.specs.Demand1.{More}
-use Rattle.demands.specs.Fitting.{oursOfFits, lasts, FitNumber, Order3}
+use Rattle.demands.specs.Fitting.{ours_of_fits, lasts, FitNumber, Order3}
 use Rattle.demands.proofs.Numbers.{Only, bound, only-shape, only-view}
 use Rattle.demands.proofs.Wider.{stays_at}
 
@@ -39,48 +39,48 @@ use Rattle.demands.proofs.Wider.{stays_at}
 abbrev Early : ℕ → Type 0
 Early k = (4 ≤ k) × (k ≤ 7)
 
-early : (x : Lent) (w : ℕ) → Only Early (viewAt x w)
+early : (x : Lent) (w : ℕ) → Only Early (view_at x w)
 early x w =
-    bound Early (shape_at x w) (view size codesAt) (only-shape Early (omega arith, omega arith) (omega arith, omega arith) x w)
+    bound Early (shape_at x w) (view size codes_at) (only-shape Early (omega arith, omega arith) (omega arith, omega arith) x w)
     (λ s. only-view Early (omega arith, omega arith) (omega arith, omega arith) s)
 
 unread-number : (x : Lent) (w : ℕ) (r : Refusal) → Unread x w r → FitNumber (number r)
 unread-number x w r (inl h) = inl (ap number h.1)
 unread-number x w r (inr h) = inr (inl (early x w r h.1))
 
-fit-number : (x : Lent) (w : ℕ) (s : List ℕ) (r : FitRefusal) → fitted x w s ≡ Refused r → FitNumber (fitNumber r)
+fit-number : (x : Lent) (w : ℕ) (s : List ℕ) (r : FitRefusal) → fitted x w s ≡ Refused r → FitNumber (fit_number r)
 fit-number x w s (Record r) e = unread-number x w r (((exactly x w s).unread r).0 e)
 fit-number x w s Short e = inr (inr (inr refl))
 fit-number x w s (Differs o) e = inr (inr (inl refl))
 
 -- ---- with more.xdata
-module _ (x x' : Lent) (w : ℕ) (s : List ℕ) (m : More x x') (f : fitXdata x' ≡ true) where
-  stays-read : (y y' : Res Shape) → Stays y y' → lasts (either y (λ r. Refused (Record r)) (shapeFitted s)) ≡ true → either y' (λ r. Refused (Record r)) (shapeFitted s) ≡ either y (λ r. Refused (Record r)) (shapeFitted s)
+module _ (x x' : Lent) (w : ℕ) (s : List ℕ) (m : More x x') (f : fit_xdata x' ≡ true) where
+  stays-read : (y y' : Res Shape) → Stays y y' → lasts (either y (λ r. Refused (Record r)) (shape_fitted s)) ≡ true → either y' (λ r. Refused (Record r)) (shape_fitted s) ≡ either y (λ r. Refused (Record r)) (shape_fitted s)
   stays-read (ok sh) y' h l = rw (h refl) refl
-  stays-read (refuse r) y' h l = go (ofExtent (number r)) refl l
+  stays-read (refuse r) y' h l = go (of_extent (number r)) refl l
     where
-      go : (t : Bool) → ofExtent (number r) ≡ t → not t ≡ true → either y' (λ r. Refused (Record r)) (shapeFitted s) ≡ Refused (Record r)
+      go : (t : Bool) → of_extent (number r) ≡ t → not t ≡ true → either y' (λ r. Refused (Record r)) (shape_fitted s) ≡ Refused (Record r)
       go true e k = absurd (true≢false (sym k))
       go false e k = rw (h e) refl
 
   stays-xdata : lasts (fitted x w s) ≡ true → fitted x' w s ≡ fitted x w s
   unfolding fitted
-  stays-xdata l = go (fitXdata x) l
+  stays-xdata l = go (fit_xdata x) l
     where
       go :
-          (t : Bool) → lasts (if t then either (shape_at x w) (λ r. Refused (Record r)) (shapeFitted s) else Refused (Record UnfitInput)) ≡ true
-          → (if fitXdata x' then either (shape_at x' w) (λ r. Refused (Record r)) (shapeFitted s) else Refused (Record UnfitInput))
-          ≡ (if t then either (shape_at x w) (λ r. Refused (Record r)) (shapeFitted s) else Refused (Record UnfitInput))
+          (t : Bool) → lasts (if t then either (shape_at x w) (λ r. Refused (Record r)) (shape_fitted s) else Refused (Record UnfitInput)) ≡ true
+          → (if fit_xdata x' then either (shape_at x' w) (λ r. Refused (Record r)) (shape_fitted s) else Refused (Record UnfitInput))
+          ≡ (if t then either (shape_at x w) (λ r. Refused (Record r)) (shape_fitted s) else Refused (Record UnfitInput))
       go true k = rw f (stays-read (shape_at x w) (shape_at x' w) (stays_at x x' m w) k)
       go false k = absurd (true≢false (sym k))
 
 -- ---- and more code
-stays : (x x' : Lent) (w : ℕ) (s more : List ℕ) → More x x' → fitXdata x' ≡ true → lasts (fitted x w s) ≡ true → fitted x' w (s ++ more) ≡ fitted x w s
+stays : (x x' : Lent) (w : ℕ) (s more : List ℕ) → More x x' → fit_xdata x' ≡ true → lasts (fitted x w s) ≡ true → fitted x' w (s ++ more) ≡ fitted x w s
 stays x x' w s more m f l =
     let e = stays-xdata x x' w s m f l in
     fit-behind x' w s more (λ q. true≢false (sym (ap lasts (sym (sym e ∙ q)) ∙ l) ∙ refl)) ∙ e
 
-pub order3 : Order3 oursOfFits
+pub order3 : Order3 ours_of_fits
 order3 = record {
   told = λ x w s. refl;
   printed = λ file. refl;

@@ -17,9 +17,9 @@ use Rattle.machine.specs.declared.Regs.{Regs}
 use Rattle.machine.specs.Step.{stands}
 use Rattle.pdata.specs.declared.Entry.{Entry}
 use Rattle.pdata.specs.Pdata.{find}
-use Rattle.xdata.specs.Xdata.{fitXdata}
+use Rattle.xdata.specs.Xdata.{fit_xdata}
 use Rattle.record.specs.Record.{shape_of}
-use Rattle.frame.specs.Frame.{Inputs, Caller, fitStack, leafOf, uncovered, within, byRecord, frame_of}
+use Rattle.frame.specs.Frame.{Inputs, Caller, fit_stack, leaf_of, uncovered, within, by_record, frame_of}
 use Rattle.walking.specs.Walk.{arm}
 use Rattle.frame.proofs.Inner.{inner-within}
 
@@ -37,10 +37,10 @@ later-bind (ok a) f g h = h a
 later-bind (refuse r) f g h = refusal r refl refl
 
 later-uncovered : (g : Regs) → Later arm (uncovered false g) (uncovered true g)
-later-uncovered g = leaf (leafOf g) refl refl refl
+later-uncovered g = leaf (leaf_of g) refl refl refl
 
-later-record : (t : Inputs) (e : Entry) (g : Regs) → Later arm (byRecord false t e g) (byRecord true t e g)
-unfolding byRecord
+later-record : (t : Inputs) (e : Entry) (g : Regs) → Later arm (by_record false t e g) (by_record true t e g)
+unfolding by_record
 later-record t e g = later-bind (shape_of t.xdata e) _ _ (λ s. go s (ltb (even g.pc - t.image - e.start) s.span))
   where
     in-it : Shape → Res Caller
@@ -53,9 +53,9 @@ later-record t e g = later-bind (shape_of t.xdata e) _ _ (λ s. go s (ltb (even 
 pub later-frame : (t : Inputs) (g : Regs) → Later arm (frame_of false t g) (frame_of true t g)
 unfolding frame_of
 later-frame t g =
-    later-need (fitStack t.stack && fitXdata t.xdata) UnfitInput _ _
+    later-need (fit_stack t.stack && fit_xdata t.xdata) UnfitInput _ _
     (later-bind (find t.image t.pdata g.pc) _ _ (λ e. later-need (stands t.stack g.sp) BadStack _ _ (go e)))
   where
-    go : (e : Option Entry) → Later arm (maybe e (uncovered false g) (λ e. byRecord false t e g)) (maybe e (uncovered true g) (λ e. byRecord true t e g))
+    go : (e : Option Entry) → Later arm (maybe e (uncovered false g) (λ e. by_record false t e g)) (maybe e (uncovered true g) (λ e. by_record true t e g))
     go none = later-uncovered g
     go (some e) = later-record t e g

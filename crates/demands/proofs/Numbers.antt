@@ -12,8 +12,8 @@ use lib.Dec.{leb, ltb, eqb}
 use native.Mathlib.Omega.{arith}
 use borrow.Author.Tests.{ne_eqb}
 use Rattle.words.specs.Bits.{bits, bit, even}
-use Rattle.words.specs.Units.{codeBytes}
-use Rattle.lent.specs.Lent.{Lent, holds, wordAt}
+use Rattle.words.specs.Units.{code_bytes}
+use Rattle.lent.specs.Lent.{Lent, holds, word_at}
 use Rattle.words.specs.Refusals.{number}
 use Rattle.words.specs.declared.CodeBytes.{CodeBytes}
 use Rattle.words.specs.declared.Place.{Place}
@@ -24,35 +24,35 @@ use Rattle.words.specs.Answer.{Res, ok, refuse, ◌>>=◌, ◌>>◌, need, if◌
 use Rattle.unwinding.specs.CodeList.{total, end_of, run}
 use Rattle.unwinding.specs.Shape.{Shape}
 use Rattle.unwinding.specs.View.{EpilogueOf, View, ascending, fits, epilogues, view}
-use Rattle.unwinding.specs.Todo.{Todo, left, inEpilogue, inEpilogues, todo}
+use Rattle.unwinding.specs.Todo.{Todo, left, in_epilogue, in_epilogues, todo}
 use Rattle.unwinding.specs.Trail as Trail
 use Rattle.unwinding.specs.declared.Scope.{Scope}
 use Rattle.unwinding.proofs.Scanning.{by-scan}
-use Rattle.codes.specs.Code.{size, scan, codesAt}
+use Rattle.codes.specs.Code.{size, scan, codes_at}
 use Rattle.codes.proofs.Scanning.{takes}
 use Rattle.codes.specs.Condition.{executing}
 use Rattle.codes.specs.declared.Code.{Code}
 use Rattle.codes.specs.declared.Undo.{Undo}
 use Rattle.codes.specs.declared.Undo.TheVariants.{Up, Pop, SpFrom, Vpop, LoadLr, Nothing}
 use Rattle.machine.specs.declared.Regs.{Regs}
-use Rattle.machine.specs.Step.{stands, load, popReg, popD, pop, vpop, effect, step}
+use Rattle.machine.specs.Step.{stands, load, pop_reg, pop_d, pop, vpop, effect, step}
 use Rattle.pdata.specs.declared.Entry.{Entry}
 use Rattle.pdata.specs.declared.Found.TheVariants as Found
 use Rattle.packed.specs.declared.Packed.{Packed}
 use Rattle.packed.specs.declared.WordOf.{WordOf}
 use Rattle.packed_codes.specs.declared.CodesOf.{CodesOf}
-use Rattle.pdata.specs.Pdata.{find, found, findRva, starts}
-use Rattle.packed.specs.Packed.{fields, word_of, fieldsFit, allowed, writeWord, wordAnswer}
-use Rattle.packed_codes.specs.PackedCodes.{written, writeCodes, codesAnswer}
-use Rattle.xdata.specs.Xdata.{fitXdata, recordBytes, scopeCount, shortHead, longHead, headAt, xdataSize, sizeAnswer}
-use Rattle.xdata.specs.Scopes.{scopesAt}
-use Rattle.record.specs.Record.{fullShape, packedShape, shape_at, shape_of}
-use Rattle.frame.specs.Frame.{Inputs, fitStack, uncovered, within, byRecord, frame_of}
-use Rattle.walking.specs.Walk.{nextFrame}
+use Rattle.pdata.specs.Pdata.{find, found, find_rva, starts}
+use Rattle.packed.specs.Packed.{fields, word_of, fields_fit, allowed, write_word, word_answer}
+use Rattle.packed_codes.specs.PackedCodes.{written, write_codes, codes_answer}
+use Rattle.xdata.specs.Xdata.{fit_xdata, record_bytes, scope_count, short_head, long_head, head_at, xdata_size, size_answer}
+use Rattle.xdata.specs.Scopes.{scopes_at}
+use Rattle.record.specs.Record.{full_shape, packed_shape, shape_at, shape_of}
+use Rattle.frame.specs.Frame.{Inputs, fit_stack, uncovered, within, by_record, frame_of}
+use Rattle.walking.specs.Walk.{next_frame}
 use Rattle.regions.specs.declared.RegionRefusal.{RegionRefusal}
 use Rattle.regions.specs.declared.RegionRefusal.TheVariants.{Record, TableOutside, Crossed}
-use Rattle.regions.specs.Table.{regionNumber}
-use Rattle.fitting.specs.Fitting.{fitNumber}
+use Rattle.regions.specs.Table.{region_number}
+use Rattle.fitting.specs.Fitting.{fit_number}
 use Rattle.fitting.specs.declared.FitRefusal.{FitRefusal}
 use Rattle.fitting.specs.declared.FitRefusal.TheVariants as Fit
 
@@ -97,61 +97,61 @@ module _ (P : ℕ → Type 0) where
 
   -- the operations on the tables
   only-find : P 1 → P 2 → P 3 → (image : ℕ) (pdata : List ℕ) (pc : ℕ) → Only P (find image pdata pc)
-  unfolding find findRva
+  unfolding find find_rva
   only-find p1 p2 p3 i s pc =
       needed (eqb (length s % 8) 0) UnfitInput _ p1
       (needed (leb i (even pc)) PcBelowBase _ p2
       (needed (eqb (length s % 8) 0) UnfitInput _ p1 (needed (ascending (starts s)) StartsNotAscending _ p3 (given _))))
 
-  only-long : P 4 → P 5 → (x : Lent) (a w : ℕ) → Only P (longHead x a w)
-  unfolding longHead
-  only-long p4 p5 x a w = needed (holds x a 8) OutsideXdata _ p5 (needed (eqb (bits 24 8 (wordAt x (a + 4))) 0) Reserved _ p4 (given _))
+  only-long : P 4 → P 5 → (x : Lent) (a w : ℕ) → Only P (long_head x a w)
+  unfolding long_head
+  only-long p4 p5 x a w = needed (holds x a 8) OutsideXdata _ p5 (needed (eqb (bits 24 8 (word_at x (a + 4))) 0) Reserved _ p4 (given _))
 
-  only-head : P 4 → P 5 → (x : Lent) (a : ℕ) → Only P (headAt x a)
-  unfolding headAt
+  only-head : P 4 → P 5 → (x : Lent) (a : ℕ) → Only P (head_at x a)
+  unfolding head_at
   only-head p4 p5 x a =
       needed (holds x a 4) OutsideXdata _ p5
-      (needed (eqb (bits 18 2 (wordAt x a)) 0) Reserved _ p4
-      (bound (if eqb (bits 23 9 (wordAt x a)) 0 then longHead x a (wordAt x a) else ok (shortHead (wordAt x a))) _
-      (either_way (eqb (bits 23 9 (wordAt x a)) 0) (longHead x a (wordAt x a)) (ok (shortHead (wordAt x a))) (only-long p4 p5 x a (wordAt x a)) (given (shortHead (wordAt x a))))
-      (λ h. needed (holds x a (recordBytes h)) OutsideXdata _ p5 (given h))))
+      (needed (eqb (bits 18 2 (word_at x a)) 0) Reserved _ p4
+      (bound (if eqb (bits 23 9 (word_at x a)) 0 then long_head x a (word_at x a) else ok (short_head (word_at x a))) _
+      (either_way (eqb (bits 23 9 (word_at x a)) 0) (long_head x a (word_at x a)) (ok (short_head (word_at x a))) (only-long p4 p5 x a (word_at x a)) (given (short_head (word_at x a))))
+      (λ h. needed (holds x a (record_bytes h)) OutsideXdata _ p5 (given h))))
 
-  pub only-size : P 1 → P 4 → P 5 → (x : Lent) (a : ℕ) → Only P (xdataSize x a)
-  unfolding xdataSize
-  only-size p1 p4 p5 x a = needed (fitXdata x) UnfitInput _ p1 (bound (headAt x (a - a % 4)) _ (only-head p4 p5 x (a - a % 4)) (λ h. given _))
+  pub only-size : P 1 → P 4 → P 5 → (x : Lent) (a : ℕ) → Only P (xdata_size x a)
+  unfolding xdata_size
+  only-size p1 p4 p5 x a = needed (fit_xdata x) UnfitInput _ p1 (bound (head_at x (a - a % 4)) _ (only-head p4 p5 x (a - a % 4)) (λ h. given _))
 
-  only-codes : P 4 → (w : ℕ) → Only P (writeCodes w)
-  unfolding writeCodes
+  only-codes : P 4 → (w : ℕ) → Only P (write_codes w)
+  unfolding write_codes
   only-codes p4 w = needed (allowed (fields w)) Reserved _ p4 (given _)
 
-  only-scopes : P 4 → (x : Lent) (a k : ℕ) → Only P (scopesAt x a k)
-  unfolding scopesAt
+  only-scopes : P 4 → (x : Lent) (a k : ℕ) → Only P (scopes_at x a k)
+  unfolding scopes_at
   only-scopes p4 x a zero = given []
-  only-scopes p4 x a (suc k) = needed (eqb (bits 18 2 (wordAt x a)) 0) Reserved _ p4 (bound (scopesAt x (a + 4) k) _ (only-scopes p4 x (a + 4) k) (λ l. given _))
+  only-scopes p4 x a (suc k) = needed (eqb (bits 18 2 (word_at x a)) 0) Reserved _ p4 (bound (scopes_at x (a + 4) k) _ (only-scopes p4 x (a + 4) k) (λ l. given _))
 
   pub only-shape : P 4 → P 5 → (x : Lent) (w : ℕ) → Only P (shape_at x w)
-  unfolding fullShape packedShape
+  unfolding full_shape packed_shape
   only-shape p4 p5 x w =
-      either_way (eqb (bits 0 2 w) 0) (fullShape x w) (packedShape w)
-      (bound (headAt x w) _ (only-head p4 p5 x w) (λ h. bound (scopesAt x (w + h.bytes) (scopeCount h)) _ (only-scopes p4 x (w + h.bytes) (scopeCount h)) (λ l. given _)))
-      (bound (writeCodes w) _ (only-codes p4 w) (λ c. given _))
+      either_way (eqb (bits 0 2 w) 0) (full_shape x w) (packed_shape w)
+      (bound (head_at x w) _ (only-head p4 p5 x w) (λ h. bound (scopes_at x (w + h.bytes) (scope_count h)) _ (only-scopes p4 x (w + h.bytes) (scope_count h)) (λ l. given _)))
+      (bound (write_codes w) _ (only-codes p4 w) (λ c. given _))
 
   only-scan : P 6 → (s : List ℕ) (i : CodeBytes) → Only P (scan s i).ending
   only-scan p6 s i = by-scan takes s (λ j x. Only P x.ending) (λ j c next r e h. h) (λ j n e. given n) (λ j k e. refused (BadCodes k) p6) i
 
-  only-list : P 6 → (s : List ℕ) (i : CodeBytes) → Only P (codesAt s i)
+  only-list : P 6 → (s : List ℕ) (i : CodeBytes) → Only P (codes_at s i)
   only-list p6 s i = bound (scan s i).ending _ (only-scan p6 s i) (λ k. given _)
 
-  only-epilogues : P 6 → (s : Shape) (l : List Scope) → Only P (epilogues size codesAt s l)
+  only-epilogues : P 6 → (s : Shape) (l : List Scope) → Only P (epilogues size codes_at s l)
   unfolding epilogues
   only-epilogues p6 s [] = given []
-  only-epilogues p6 s (e ∷ l) = bound (codesAt s.codes e.index) _ (only-list p6 s.codes e.index) (λ c. bound (epilogues size codesAt s l) _ (only-epilogues p6 s l) (λ rest. given _))
+  only-epilogues p6 s (e ∷ l) = bound (codes_at s.codes e.index) _ (only-list p6 s.codes e.index) (λ c. bound (epilogues size codes_at s l) _ (only-epilogues p6 s l) (λ rest. given _))
 
-  pub only-view : P 6 → P 7 → (s : Shape) → Only P (view size codesAt s)
+  pub only-view : P 6 → P 7 → (s : Shape) → Only P (view size codes_at s)
   unfolding view
   only-view p6 p7 s =
-      bound (codesAt s.codes (codeBytes 0)) _ (only-list p6 s.codes (codeBytes 0))
-      (λ c. bound (epilogues size codesAt s s.scopes) _ (only-epilogues p6 s s.scopes) (λ es. needed (fits s.span (if s.fragment then 0 else total size c.list) es) BadLayout _ p7 (given _)))
+      bound (codes_at s.codes (code_bytes 0)) _ (only-list p6 s.codes (code_bytes 0))
+      (λ c. bound (epilogues size codes_at s s.scopes) _ (only-epilogues p6 s s.scopes) (λ es. needed (fits s.span (if s.fragment then 0 else total size c.list) es) BadLayout _ p7 (given _)))
 
 -- what one frame is made of
 module _ (P : ℕ → Type 0) (all : (k : ℕ) → k ≤ 11 → P k) where
@@ -163,14 +163,14 @@ module _ (P : ℕ → Type 0) (all : (k : ℕ) → k ≤ 11 → P k) where
       go none = refused P InsideInstruction (all 9 (omega arith))
       go (some l) = given P _
 
-  up-epilogue : (e : EpilogueOf Code) (o : ℕ) → Only P (inEpilogue size executing e o)
-  unfolding inEpilogue
-  up-epilogue e o = bound P (left size _ e.codes.endSize (e.start + e.size - o) e.codes.list) _ (up_left _ e.codes.endSize (e.start + e.size - o) e.codes.list) (λ t. needed P (executing e.condition) Conditional _ (all 10 (omega arith)) (given P t))
+  up-epilogue : (e : EpilogueOf Code) (o : ℕ) → Only P (in_epilogue size executing e o)
+  unfolding in_epilogue
+  up-epilogue e o = bound P (left size _ e.codes.end_size (e.start + e.size - o) e.codes.list) _ (up_left _ e.codes.end_size (e.start + e.size - o) e.codes.list) (λ t. needed P (executing e.condition) Conditional _ (all 10 (omega arith)) (given P t))
 
-  up_in : (es : List (EpilogueOf Code)) (o : ℕ) (cs : List Code) → Only P (inEpilogues size executing es o cs)
-  unfolding inEpilogues
+  up_in : (es : List (EpilogueOf Code)) (o : ℕ) (cs : List Code) → Only P (in_epilogues size executing es o cs)
+  unfolding in_epilogues
   up_in [] o cs = given P _
-  up_in (e ∷ es) o cs = either_way P (leb e.start o && ltb o (e.start + e.size)) (inEpilogue size executing e o) (inEpilogues size executing es o cs) (up-epilogue e o) (up_in es o cs)
+  up_in (e ∷ es) o cs = either_way P (leb e.start o && ltb o (e.start + e.size)) (in_epilogue size executing e o) (in_epilogues size executing es o cs) (up-epilogue e o) (up_in es o cs)
 
   up-todo : (v : View Code) (o : ℕ) → Only P (todo size executing v o)
   unfolding todo
@@ -181,12 +181,12 @@ module _ (P : ℕ → Type 0) (all : (k : ℕ) → k ≤ 11 → P k) where
   up-load k a = needed P (holds k a 4) BadStack _ (all 8 (omega arith)) (given P _)
 
   up-pop : (k : Lent) (l m : ℕ) (g : Regs) → Only P (pop k l m g)
-  unfolding pop popReg
+  unfolding pop pop_reg
   up-pop k l zero g = given P g
-  up-pop k l (suc m) g = bound P (pop k l m g) _ (up-pop k l m g) (λ h. either_way P (bit m l) (popReg k m h) (ok h) (bound P (load k h.sp) _ (up-load k h.sp) (λ w. given P _)) (given P h))
+  up-pop k l (suc m) g = bound P (pop k l m g) _ (up-pop k l m g) (λ h. either_way P (bit m l) (pop_reg k m h) (ok h) (bound P (load k h.sp) _ (up-load k h.sp) (λ w. given P _)) (given P h))
 
   up-vpop : (k : Lent) (x m : ℕ) (g : Regs) → Only P (vpop k x m g)
-  unfolding vpop popD
+  unfolding vpop pop_d
   up-vpop k x zero g = given P g
   up-vpop k x (suc m) g = bound P (vpop k x m g) _ (up-vpop k x m g) (λ h. bound P (load k h.sp) _ (up-load k h.sp) (λ w. bound P (load k (h.sp + 4)) _ (up-load k (h.sp + 4)) (λ v. given P _)))
 
@@ -206,17 +206,17 @@ module _ (P : ℕ → Type 0) (all : (k : ℕ) → k ≤ 11 → P k) where
   up-within : (k : Lent) (s : Shape) (o : ℕ) (g : Regs) → Only P (within k s o g)
   unfolding within
   up-within k s o g =
-      bound P (view size codesAt s) _ (only-view P (all 6 (omega arith)) (all 7 (omega arith)) s)
+      bound P (view size codes_at s) _ (only-view P (all 6 (omega arith)) (all 7 (omega arith)) s)
       (λ v. bound P (todo size executing v o) _ (up-todo v o)
       (λ t. bound P (run (step k) t.codes g) _ (up_run k t.codes g) (λ h. needed P (leb g.sp h.sp) SpFell _ (all 11 (omega arith)) (given P _))))
 
   up-frame : (first : Bool) → ((g : Regs) → Only P (uncovered first g)) → (t : Inputs) (g : Regs) → Only P (frame_of first t g)
-  unfolding frame_of byRecord
+  unfolding frame_of by_record
   up-frame first none-covers t g =
-      needed P (fitStack t.stack && fitXdata t.xdata) UnfitInput _ (all 1 (omega arith))
+      needed P (fit_stack t.stack && fit_xdata t.xdata) UnfitInput _ (all 1 (omega arith))
       (bound P (find t.image t.pdata g.pc) _ (only-find P (all 1 (omega arith)) (all 2 (omega arith)) (all 3 (omega arith)) t.image t.pdata g.pc) (λ e. needed P (stands t.stack g.sp) BadStack _ (all 8 (omega arith)) (go e)))
     where
-      go : (e : Option Entry) → Only P (maybe e (uncovered first g) (λ e. byRecord first t e g))
+      go : (e : Option Entry) → Only P (maybe e (uncovered first g) (λ e. by_record first t e g))
       go none = none-covers g
       go (some e) = bound P (shape_of t.xdata e) _ (only-shape P (all 4 (omega arith)) (all 5 (omega arith)) t.xdata e.word) (λ s. either_way P (ltb (even g.pc - t.image - e.start) s.span) _ _ (up-within t.stack s (even g.pc - t.image - e.start) g) (none-covers g))
 
@@ -230,8 +230,8 @@ up-any : (first : Bool) (t : Inputs) (g : Regs) → UpTo 13 (frame_of first t g)
 up-any true = up-frame (λ k. k ≤ 13) (λ k h. omega (arith, h)) true (λ g. given (λ k. k ≤ 13) _)
 up-any false = up-frame (λ k. k ≤ 13) (λ k h. omega (arith, h)) false (λ g. refused (λ k. k ≤ 13) NoRecord (omega arith))
 
-pub up_next : (first : Bool) (t : Inputs) (g : Regs) → UpTo 13 (nextFrame first t g)
-unfolding Trail.nextFrame
+pub up_next : (first : Bool) (t : Inputs) (g : Regs) → UpTo 13 (next_frame first t g)
+unfolding Trail.next_frame
 up_next first t g =
     bound (λ k. k ≤ 13) (frame_of first t g) _ (up-any first t g)
     (λ c. needed (λ k. k ≤ 13) (first || not (eqb c.regs.sp g.sp)) SpSame _ (omega arith) (given (λ k. k ≤ 13) c))
@@ -245,34 +245,34 @@ not_found (refuse q) r e = ap refuse (let z : q ≡ r = cc in z)
 pub found_number : (image : ℕ) (pdata : List ℕ) (pc : ℕ) (r : Refusal) → found (find image pdata pc) ≡ Found.Refused r → (1 ≤ number r) × (number r ≤ 3)
 found_number i s pc r e = (numbered r, only-find (λ k. k ≤ 3) (omega arith) (omega arith) (omega arith) i s pc r (not_found (find i s pc) r e))
 
-not-sized : (x : Res ℕ) (r : Refusal) → (sizeAnswer x).verdict ≡ Verdict.Refused r → x ≡ refuse r
+not-sized : (x : Res ℕ) (r : Refusal) → (size_answer x).verdict ≡ Verdict.Refused r → x ≡ refuse r
 not-sized (ok n) r e = absurd (let z : ◌≡◌ {A = ℕ} 0 1 = cc in omega arith)
 not-sized (refuse q) r e = ap refuse (let z : q ≡ r = cc in z)
 
-pub size_number : (x : Lent) (at : ℕ) (r : Refusal) → (sizeAnswer (xdataSize x at)).verdict ≡ Verdict.Refused r → ((number r ≡ 1) ⊎ (number r ≡ 4) ⊎ (number r ≡ 5)) × ((sizeAnswer (xdataSize x at)).bytes ≡ 0)
+pub size_number : (x : Lent) (at : ℕ) (r : Refusal) → (size_answer (xdata_size x at)).verdict ≡ Verdict.Refused r → ((number r ≡ 1) ⊎ (number r ≡ 4) ⊎ (number r ≡ 5)) × ((size_answer (xdata_size x at)).bytes ≡ 0)
 size_number x at r e =
-    let q = not-sized (xdataSize x at) r e in
+    let q = not-sized (xdata_size x at) r e in
     (only-size (λ k. (k ≡ 1) ⊎ (k ≡ 4) ⊎ (k ≡ 5)) (inl refl) (inr (inl refl)) (inr (inr refl)) x at r q, rw q refl)
 
 abbrev NoWord : Refusal → WordOf → Type 0
 NoWord r a = a.verdict ≡ Verdict.Refused r → (number r ≡ 4) × (a.word ≡ 0)
 
-pub word_number : (p : Packed) (r : Refusal) → NoWord r (wordAnswer (writeWord p))
-unfolding writeWord
-word_number p r = go (fieldsFit p && allowed p)
+pub word_number : (p : Packed) (r : Refusal) → NoWord r (word_answer (write_word p))
+unfolding write_word
+word_number p r = go (fields_fit p && allowed p)
   where
-    go : (t : Bool) → NoWord r (wordAnswer (need t Reserved >> ok (word_of p)))
+    go : (t : Bool) → NoWord r (word_answer (need t Reserved >> ok (word_of p)))
     go true e = absurd (let z : ◌≡◌ {A = ℕ} 0 1 = cc in omega arith)
     go false e = let z : r ≡ Reserved = cc in (ap number z, refl)
 
 abbrev NoCodes : Refusal → CodesOf → Type 0
 NoCodes r a = a.verdict ≡ Verdict.Refused r → (number r ≡ 4) × (a.bytes ≡ replicate 16 0) × (a.first.0 ≡ 0) × (a.second.0 ≡ 0)
 
-pub codes-number : (w : ℕ) (r : Refusal) → NoCodes r (codesAnswer (writeCodes w))
-unfolding writeCodes
+pub codes-number : (w : ℕ) (r : Refusal) → NoCodes r (codes_answer (write_codes w))
+unfolding write_codes
 codes-number w r = go (allowed (fields w))
   where
-    go : (t : Bool) → NoCodes r (codesAnswer (need t Reserved >> ok (written (fields w))))
+    go : (t : Bool) → NoCodes r (codes_answer (need t Reserved >> ok (written (fields w))))
     go true e = absurd (let z : ◌≡◌ {A = ℕ} 0 1 = cc in omega arith)
     go false e = let z : r ≡ Reserved = cc in (ap number z, refl, refl, refl)
 
@@ -284,7 +284,7 @@ kind PcBelowBase = PcBelowBase
 kind StartsNotAscending = StartsNotAscending
 kind Reserved = Reserved
 kind OutsideXdata = OutsideXdata
-kind (BadCodes i) = BadCodes (codeBytes 0)
+kind (BadCodes i) = BadCodes (code_bytes 0)
 kind BadLayout = BadLayout
 kind BadStack = BadStack
 kind InsideInstruction = InsideInstruction
@@ -297,7 +297,7 @@ kind UnfitReport = UnfitReport
 -- the one of a number
 abbrev named : ℕ → Refusal
 named n =
-    get_or (UnfitInput ∷ PcBelowBase ∷ StartsNotAscending ∷ Reserved ∷ OutsideXdata ∷ BadCodes (codeBytes 0) ∷ BadLayout ∷ BadStack ∷ InsideInstruction ∷ Conditional ∷ SpFell ∷ NoRecord ∷ SpSame ∷ UnfitReport ∷ []) (n - 1) UnfitReport
+    get_or (UnfitInput ∷ PcBelowBase ∷ StartsNotAscending ∷ Reserved ∷ OutsideXdata ∷ BadCodes (code_bytes 0) ∷ BadLayout ∷ BadStack ∷ InsideInstruction ∷ Conditional ∷ SpFell ∷ NoRecord ∷ SpSame ∷ UnfitReport ∷ []) (n - 1) UnfitReport
 
 named-kind : (r : Refusal) → named (number r) ≡ kind r
 named-kind UnfitInput = refl
@@ -319,13 +319,13 @@ pub numbers-differ : (r s : Refusal) → number r ≡ number s → kind r ≡ ki
 numbers-differ r s e = sym (named-kind r) ∙ ap named e ∙ named-kind s
 
 -- with those of order 1
-abbrev pub regionKind : RegionRefusal → RegionRefusal
-regionKind (Record r) = Record (kind r)
-regionKind TableOutside = TableOutside
-regionKind Crossed = Crossed
+abbrev pub region_kind : RegionRefusal → RegionRefusal
+region_kind (Record r) = Record (kind r)
+region_kind TableOutside = TableOutside
+region_kind Crossed = Crossed
 
-abbrev regionNamed : ℕ → RegionRefusal
-regionNamed n = if eqb n 15 then TableOutside else (if eqb n 16 then Crossed else Record (named n))
+abbrev region_named : ℕ → RegionRefusal
+region_named n = if eqb n 15 then TableOutside else (if eqb n 16 then Crossed else Record (named n))
 
 -- every other number is below them
 below-15 : (r : Refusal) → number r ≤ 14
@@ -344,37 +344,37 @@ below-15 NoRecord = omega arith
 below-15 SpSame = omega arith
 below-15 UnfitReport = omega arith
 
-regionNamed-kind : (r : RegionRefusal) → regionNamed (regionNumber r) ≡ regionKind r
-regionNamed-kind (Record r) =
+region_named-kind : (r : RegionRefusal) → region_named (region_number r) ≡ region_kind r
+region_named-kind (Record r) =
     let h = below-15 r in
     rw (ne_eqb (number r) 15 (λ e. omega (arith, h, e)), ne_eqb (number r) 16 (λ e. omega (arith, h, e))) (ap Record (named-kind r))
-regionNamed-kind TableOutside = refl
-regionNamed-kind Crossed = refl
+region_named-kind TableOutside = refl
+region_named-kind Crossed = refl
 
-pub region-numbers-differ : (r s : RegionRefusal) → regionNumber r ≡ regionNumber s → regionKind r ≡ regionKind s
-region-numbers-differ r s e = sym (regionNamed-kind r) ∙ ap regionNamed e ∙ regionNamed-kind s
+pub region-numbers-differ : (r s : RegionRefusal) → region_number r ≡ region_number s → region_kind r ≡ region_kind s
+region-numbers-differ r s e = sym (region_named-kind r) ∙ ap region_named e ∙ region_named-kind s
 
 -- and with those of order 3
-abbrev pub fitKind : FitRefusal → FitRefusal
-fitKind (Fit.Record r) = Fit.Record (kind r)
-fitKind Fit.Short = Fit.Short
-fitKind (Fit.Differs o) = Fit.Differs 0
+abbrev pub fit_kind : FitRefusal → FitRefusal
+fit_kind (Fit.Record r) = Fit.Record (kind r)
+fit_kind Fit.Short = Fit.Short
+fit_kind (Fit.Differs o) = Fit.Differs 0
 
-abbrev fitNamed : ℕ → FitRefusal
-fitNamed n = if eqb n 17 then Fit.Differs 0 else (if eqb n 18 then Fit.Short else Fit.Record (named n))
+abbrev fit_named : ℕ → FitRefusal
+fit_named n = if eqb n 17 then Fit.Differs 0 else (if eqb n 18 then Fit.Short else Fit.Record (named n))
 
-fitNamed-kind : (r : FitRefusal) → fitNamed (fitNumber r) ≡ fitKind r
-fitNamed-kind (Fit.Record r) =
+fit_named-kind : (r : FitRefusal) → fit_named (fit_number r) ≡ fit_kind r
+fit_named-kind (Fit.Record r) =
     let h = below-15 r in
     rw (ne_eqb (number r) 17 (λ e. omega (arith, h, e)), ne_eqb (number r) 18 (λ e. omega (arith, h, e))) (ap Fit.Record (named-kind r))
-fitNamed-kind Fit.Short = refl
-fitNamed-kind (Fit.Differs o) = refl
+fit_named-kind Fit.Short = refl
+fit_named-kind (Fit.Differs o) = refl
 
-pub fit-numbers-differ : (r s : FitRefusal) → fitNumber r ≡ fitNumber s → fitKind r ≡ fitKind s
-fit-numbers-differ r s e = sym (fitNamed-kind r) ∙ ap fitNamed e ∙ fitNamed-kind s
+pub fit-numbers-differ : (r s : FitRefusal) → fit_number r ≡ fit_number s → fit_kind r ≡ fit_kind s
+fit-numbers-differ r s e = sym (fit_named-kind r) ∙ ap fit_named e ∙ fit_named-kind s
 
 -- those of regions are other numbers than those of fitting, but for a record's own
-pub apart-numbers : (r : RegionRefusal) (s : FitRefusal) → regionNumber r ≡ fitNumber s → (q : Refusal) × (p : Refusal) × (r ≡ Record q) × (s ≡ Fit.Record p)
+pub apart-numbers : (r : RegionRefusal) (s : FitRefusal) → region_number r ≡ fit_number s → (q : Refusal) × (p : Refusal) × (r ≡ Record q) × (s ≡ Fit.Record p)
 apart-numbers (Record q) (Fit.Record p) e = (q, p, refl, refl)
 apart-numbers (Record q) Fit.Short e = absurd (omega (arith, below-15 q, e))
 apart-numbers (Record q) (Fit.Differs o) e = absurd (omega (arith, below-15 q, e))

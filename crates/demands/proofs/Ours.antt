@@ -6,19 +6,19 @@ use mathlib.Core.Bool.{Bool, true, false}
 use lib.ListN.{length}
 use native.Mathlib.Omega.{arith}
 use Rattle.words.specs.Bits.{even}
-use Rattle.words.specs.Refusals.{number, verdictNumber}
+use Rattle.words.specs.Refusals.{number, verdict_number}
 use Rattle.words.specs.declared.Refusal.{Refusal}
 use Rattle.words.specs.declared.Verdict.TheVariants as Verdict
 use Rattle.words.specs.Answer.{Res, ok, refuse}
 use Rattle.unwinding.proofs.Walks.{Walks, no_room, refused, last, more, walks, walk-room}
-use Rattle.unwinding.specs.Extent.{ofExtent}
+use Rattle.unwinding.specs.Extent.{of_extent}
 use Rattle.unwinding.proofs.Staying.{Stays}
 use Rattle.unwinding.proofs.TwoWalks.{listed-wider, walk-wider}
 use Rattle.unwinding.proofs.Singly.{untouched, agree}
 use Rattle.machine.specs.declared.Regs.{Regs}
-use Rattle.xdata.specs.Xdata.{sizeAnswer}
+use Rattle.xdata.specs.Xdata.{size_answer}
 use Rattle.frame.specs.Frame.{Inputs, Caller, frame, unwound}
-use Rattle.walking.specs.Walk.{arm, frames, Trail, walk, walkedAll}
+use Rattle.walking.specs.Walk.{arm, frames, Trail, walk, walked_all}
 use Rattle.walking.specs.declared.Stop.TheVariants as Stop
 use Rattle.listing.proofs.Sizes.{listing-fits}
 use Rattle.caller_text.proofs.Sizes.{caller-fits}
@@ -36,7 +36,7 @@ use Rattle.demands.proofs.Numbers.{numbered, up_first, up_next, found_number, si
 use Rattle.demands.proofs.Whole.{whole-file}
 
 -- ---- an answer by its verdict
-answer-stays : (g : Regs) (x y : Res Caller) → Stays x y → ofExtent (verdictNumber (unwound g x).verdict) ≡ false → unwound g y ≡ unwound g x
+answer-stays : (g : Regs) (x y : Res Caller) → Stays x y → of_extent (verdict_number (unwound g x).verdict) ≡ false → unwound g y ≡ unwound g x
 answer-stays g (ok c) y h e = ap (unwound g) (h e)
 answer-stays g (refuse q) y h e = ap (unwound g) (h e)
 
@@ -63,9 +63,9 @@ demand1 = record {
   given_back = λ t g r e. ap (unwound g) (answer-refused g (frame t g) r e);
   untouched = λ t g l. untouched arm l (walk t (length l) g) (walk-room arm (frames t) (length l) true g);
   frame-stays = λ t t' g w e. answer-stays g (frame t g) (frame t' g) (stays-frame t t' w true g) e;
-  walk-stays = λ t t' g l w h. ap (walkedAll l) (walk-wider arm (frames t) (frames t') (stays-frame t t' w) (length l) true g (λ s r z. h r (even s.pc) z));
+  walk-stays = λ t t' g l w h. ap (walked_all l) (walk-wider arm (frames t) (frames t') (stays-frame t t' w) (length l) true g (λ s r z. h r (even s.pc) z));
   listed-stay = λ t t' g l w. agree arm l (walk t (length l) g) (walk t' (length l) g) (listed-wider arm (frames t) (frames t') (stays-frame t t' w) (length l) true g);
-  size-stays = λ x x' at m f e. ap sizeAnswer (stays-size x x' m at f e);
+  size-stays = λ x x' at m f e. ap size_answer (stays-size x x' m at f e);
   whole-file = whole-file;
   list-fits = listing-fits;
   show-fits = caller-fits;

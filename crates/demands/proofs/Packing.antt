@@ -10,11 +10,11 @@ use Rattle.words.specs.declared.Verdict.TheVariants.{Given, Refused}
 use Rattle.words.specs.Answer.{Res, ok, refuse, ◌>>◌, need, if◌then◌else◌, verdict}
 use Rattle.unwinding.specs.CodeList.{Codes}
 use Rattle.codes.specs.declared.Code.{Code}
-use Rattle.packed.specs.Packed.{fields, fieldsFit, allowed, word_of, writeWord, wordAnswer}
-use Rattle.packed_codes.specs.PackedCodes.{written, writeCodes, codesAnswer}
+use Rattle.packed.specs.Packed.{fields, fields_fit, allowed, word_of, write_word, word_answer}
+use Rattle.packed_codes.specs.PackedCodes.{written, write_codes, codes_answer}
 use Rattle.packed.specs.declared.Packed.{Packed}
 use Rattle.record.proofs.Opened.{opened}
-use Rattle.packed.proofs.Words.{fields_fit, true-fit, write-then-read, read-then-write}
+use Rattle.packed.proofs.Words.{fields_fit_lem, true-fit, write-then-read, read-then-write}
 use Rattle.packed_codes.specs.Lists.{Holds}
 use Rattle.packed_codes.proofs.Written.{codes-given}
 use Rattle.packed_codes.proofs.Decoding.{holds}
@@ -23,9 +23,9 @@ use Rattle.demands.specs.PackedLaws.{PackedLaws}
 use Rattle.demands.specs.Shams.{forgetting, narrow-pop, unreversed, wide-chain}
 
 -- ---- ours
-accepted : (p : Packed) → (ours.word p).verdict ≡ (if fieldsFit p && allowed p then Given else Refused Reserved)
-unfolding writeWord
-accepted p = go (fieldsFit p && allowed p)
+accepted : (p : Packed) → (ours.word p).verdict ≡ (if fields_fit p && allowed p then Given else Refused Reserved)
+unfolding write_word
+accepted p = go (fields_fit p && allowed p)
   where
     go : (t : Bool) → verdict (need t Reserved >> ok (word_of p)) ≡ (if t then Given else Refused Reserved)
     go true = refl
@@ -33,16 +33,16 @@ accepted p = go (fieldsFit p && allowed p)
 
 -- a word's codes are given where its fields are allowed
 allows : (w : ℕ) → (ours.codes w).verdict ≡ (if allowed (fields w) then Given else Refused Reserved)
-unfolding writeCodes
+unfolding write_codes
 allows w = go (allowed (fields w))
   where
-    go : (t : Bool) → (codesAnswer (need t Reserved >> ok (written (fields w)))).verdict ≡ (if t then Given else Refused Reserved)
+    go : (t : Bool) → (codes_answer (need t Reserved >> ok (written (fields w)))).verdict ≡ (if t then Given else Refused Reserved)
     go true = refl
     go false = refl
 
 alike : (w : ℕ) → (ours.codes w).verdict ≡ (ours.word (fields w)).verdict
 alike w =
-    allows w ∙ sym (accepted (fields w) ∙ ap (λ t. if t && allowed (fields w) then Given else Refused Reserved) (true-fit (fields w) (fields_fit w)))
+    allows w ∙ sym (accepted (fields w) ∙ ap (λ t. if t && allowed (fields w) then Given else Refused Reserved) (true-fit (fields w) (fields_fit_lem w)))
 
 given-allowed : (w : ℕ) → (ours.codes w).verdict ≡ Given → allowed (fields w) ≡ true
 given-allowed w h = go (allowed (fields w)) refl (sym (allows w) ∙ h)
@@ -52,9 +52,9 @@ given-allowed w h = go (allowed (fields w)) refl (sym (allows w) ∙ h)
     go false e q = absurd (let z : ◌≡◌ {A = ℕ} 0 1 = cc in omega arith)
 
 written_read : (p : Packed) → (ours.word p).verdict ≡ Given → (fields (ours.word p).word ≡ p) × ((ours.word p).word < 2 ^ 32)
-written_read p h = go (writeWord p) refl h
+written_read p h = go (write_word p) refl h
   where
-    go : (x : Res ℕ) → writeWord p ≡ x → (wordAnswer x).verdict ≡ Given → (fields (wordAnswer x).word ≡ p) × ((wordAnswer x).word < 2 ^ 32)
+    go : (x : Res ℕ) → write_word p ≡ x → (word_answer x).verdict ≡ Given → (fields (word_answer x).word ≡ p) × ((word_answer x).word < 2 ^ 32)
     go (ok w) e q = write-then-read p w e
     go (refuse r) e q = absurd (let z : ◌≡◌ {A = ℕ} 0 1 = cc in omega arith)
 
@@ -63,8 +63,8 @@ packed-laws = record {
   accepted = accepted;
   alike = alike;
   written_read = written_read;
-  read-written = λ w h e. ap wordAnswer (read-then-write w h (given-allowed w e));
-  lists = λ w e. subst (Holds (fields w)) (sym (ap codesAnswer (codes-given w (given-allowed w e)))) (holds (fields w) (fields_fit w));
+  read-written = λ w h e. ap word_answer (read-then-write w h (given-allowed w e));
+  lists = λ w e. subst (Holds (fields w)) (sym (ap codes_answer (codes-given w (given-allowed w e)))) (holds (fields w) (fields_fit_lem w));
 }
 
 -- ---- shams

@@ -13,9 +13,9 @@ use Rattle.words.specs.declared.Verdict.TheVariants.{Given, Refused}
 use Rattle.words.specs.Answer.{ok, refuse}
 use Rattle.machine.specs.Registers.{reg}
 use Rattle.machine.specs.declared.Regs.{Regs}
-use Rattle.frame.specs.Frame.{Inputs, unwound, frame, leafOf}
+use Rattle.frame.specs.Frame.{Inputs, unwound, frame, leaf_of}
 use Rattle.frame.specs.declared.Unwound.{Unwound}
-use Rattle.walking.specs.Walk.{walk, walkedAll}
+use Rattle.walking.specs.Walk.{walk, walked_all}
 use Rattle.walking.specs.declared.Frame.{Frame}
 use Rattle.walking.specs.declared.Stop.TheVariants.{End}
 use Rattle.walking.specs.declared.WalkedAll.{WalkedAll}
@@ -79,7 +79,7 @@ offset-4 = refl
 no-leaf : Demand2 as-leaf → ⊥
 no-leaf h =
     let g = Example.regs 0x00401004 0x20000 in
-    let q : unwound g (ok (leafOf g)) ≡ unwound g (frame Example.inputs g) = h.caller Example.inputs g in
+    let q : unwound g (ok (leaf_of g)) ≡ unwound g (frame Example.inputs g) = h.caller Example.inputs g in
     let z : ◌≡◌ {A = ℕ} 0x20000 0x20014 = ap (λ (u : Unwound). u.regs.sp) (q ∙ ap (unwound g) offset-4) in omega arith
 
 -- a walk that repeats its first frame, by RULES 8.13
@@ -93,7 +93,7 @@ abbrev two : WalkedAll
 two =
     record { walked = record { stop = End; frames = 2; codes = 2 }; list = record { pc = 0x00401002; sp = 0x20008; place = Prologue } ∷ record { pc = 0x00402010; sp = 0x20014; place = Body } ∷ [] }
 
-two-frames : walkedAll lent (walk Example.inputs 2 Example.given) ≡ two
+two-frames : walked_all lent (walk Example.inputs 2 Example.given) ≡ two
 unfolding opened
 two-frames = refl
 

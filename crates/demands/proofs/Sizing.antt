@@ -8,19 +8,19 @@ use mathlib.Core.Bool.{Bool, true, false}
 use lib.Dec.{eqb}
 use native.Mathlib.Omega.{arith}
 use Rattle.words.specs.Bits.{bits, bit}
-use Rattle.lent.specs.Lent.{Lent, holds, wordAt}
+use Rattle.lent.specs.Lent.{Lent, holds, word_at}
 use Rattle.words.specs.declared.Refusal.TheVariants.{UnfitInput, Reserved, OutsideXdata}
 use Rattle.words.specs.declared.Verdict.TheVariants.{Given}
 use Rattle.lent.proofs.Bytes.{bytes_of}
 use Rattle.words.specs.Answer.{Res, ok, refuse, verdict, if◌then◌else◌}
-use Rattle.xdata.specs.Xdata.{fitXdata, recordBytes, shortHead, longHead, headAt, xdataSize, sizeAnswer}
-use Rattle.xdata.specs.as_coded.Heads.{wholeRecord}
+use Rattle.xdata.specs.Xdata.{fit_xdata, record_bytes, short_head, long_head, head_at, xdata_size, size_answer}
+use Rattle.xdata.specs.AsCoded.Heads.{whole_record}
 use Rattle.xdata.specs.declared.Head.{Head}
-use Rattle.xdata.proofs.Heads.{longOf, head_small}
+use Rattle.xdata.proofs.Heads.{long_of, head_small}
 use Rattle.words.proofs.Answers.{bind_ok, need-ok, ok_same}
 use Rattle.listing.proofs.Opened.{opened}
 use Rattle.demands.specs.Reader.{ours}
-use Rattle.demands.specs.SizeLaws.{wordCount, SizeLaws}
+use Rattle.demands.specs.SizeLaws.{word_count, SizeLaws}
 use Rattle.demands.specs.Shams.{resized, handlerless}
 use Rattle.demands.proofs.Wider.{inside}
 
@@ -29,52 +29,52 @@ by-words : (n s k : ℕ) (t : Bool) → 4 * n + 4 * s + 4 * k + (if t then 4 els
 by-words n s k true = omega arith
 by-words n s k false = omega arith
 
-long-words : (w v : ℕ) → eqb (bits 23 9 w) 0 ≡ true → recordBytes (longOf w v) ≡ 4 * wordCount w v
+long-words : (w v : ℕ) → eqb (bits 23 9 w) 0 ≡ true → record_bytes (long_of w v) ≡ 4 * word_count w v
 long-words w v q = rw q (by-words 2 (if bit 21 w then 0 else bits 0 16 v) (bits 16 8 v) (bit 20 w))
 
-short-words : (w v : ℕ) → eqb (bits 23 9 w) 0 ≡ false → recordBytes (shortHead w) ≡ 4 * wordCount w v
+short-words : (w v : ℕ) → eqb (bits 23 9 w) 0 ≡ false → record_bytes (short_head w) ≡ 4 * word_count w v
 short-words w v q = rw q (by-words 1 (if bit 21 w then 0 else bits 23 5 w) (bits 28 4 w) (bit 20 w))
 
 -- ---- the head that is read
-long-is : (x : Lent) (a w : ℕ) (h : Head) → longHead x a w ≡ ok h → longOf w (wordAt x (a + 4)) ≡ h
-unfolding longHead
+long-is : (x : Lent) (a w : ℕ) (h : Head) → long_head x a w ≡ ok h → long_of w (word_at x (a + 4)) ≡ h
+unfolding long_head
 long-is x a w h e =
     let p = need-ok (holds x a 8) OutsideXdata _ h e in
-    let q = need-ok (eqb (bits 24 8 (wordAt x (a + 4))) 0) Reserved _ h p.1 in
+    let q = need-ok (eqb (bits 24 8 (word_at x (a + 4))) 0) Reserved _ h p.1 in
     ok_same _ h q.1
 
-kind-words : (x : Lent) (a w : ℕ) (h : Head) (long : Bool) → eqb (bits 23 9 w) 0 ≡ long → (if long then longHead x a w else ok (shortHead w)) ≡ ok h
-    → recordBytes h ≡ 4 * wordCount w (wordAt x (a + 4))
-kind-words x a w h true q e = ap recordBytes (sym (long-is x a w h e)) ∙ long-words w (wordAt x (a + 4)) q
-kind-words x a w h false q e = ap recordBytes (sym (ok_same (shortHead w) h e)) ∙ short-words w (wordAt x (a + 4)) q
+kind-words : (x : Lent) (a w : ℕ) (h : Head) (long : Bool) → eqb (bits 23 9 w) 0 ≡ long → (if long then long_head x a w else ok (short_head w)) ≡ ok h
+    → record_bytes h ≡ 4 * word_count w (word_at x (a + 4))
+kind-words x a w h true q e = ap record_bytes (sym (long-is x a w h e)) ∙ long-words w (word_at x (a + 4)) q
+kind-words x a w h false q e = ap record_bytes (sym (ok_same (short_head w) h e)) ∙ short-words w (word_at x (a + 4)) q
 
-head-words : (x : Lent) (a : ℕ) (h : Head) → headAt x a ≡ ok h → recordBytes h ≡ 4 * wordCount (wordAt x a) (wordAt x (a + 4))
-unfolding headAt
+head-words : (x : Lent) (a : ℕ) (h : Head) → head_at x a ≡ ok h → record_bytes h ≡ 4 * word_count (word_at x a) (word_at x (a + 4))
+unfolding head_at
 head-words x a h e =
-    let w = wordAt x a in
+    let w = word_at x a in
     let p = need-ok (holds x a 4) OutsideXdata _ h e in
     let q = need-ok (eqb (bits 18 2 w) 0) Reserved _ h p.1 in
-    let r = bind_ok (if eqb (bits 23 9 w) 0 then longHead x a w else ok (shortHead w)) (wholeRecord x a) h q.1 in
-    let s = need-ok (holds x a (recordBytes r.0)) OutsideXdata (ok r.0) h r.2 in
+    let r = bind_ok (if eqb (bits 23 9 w) 0 then long_head x a w else ok (short_head w)) (whole_record x a) h q.1 in
+    let s = need-ok (holds x a (record_bytes r.0)) OutsideXdata (ok r.0) h r.2 in
     kind-words x a w h (eqb (bits 23 9 w) 0) refl (r.1 ∙ s.1)
 
 -- ---- a size that is given is a head's
-size-head : (x : Lent) (at n : ℕ) → xdataSize x at ≡ ok n → (h : Head) × (headAt x (at - at % 4) ≡ ok h) × (recordBytes h ≡ n)
-unfolding xdataSize
+size-head : (x : Lent) (at n : ℕ) → xdata_size x at ≡ ok n → (h : Head) × (head_at x (at - at % 4) ≡ ok h) × (record_bytes h ≡ n)
+unfolding xdata_size
 size-head x at n e =
-    let p = need-ok (fitXdata x) UnfitInput _ n e in
-    let q = bind_ok (headAt x (at - at % 4)) (λ h. ok (recordBytes h)) n p.1 in
+    let p = need-ok (fit_xdata x) UnfitInput _ n e in
+    let q = bind_ok (head_at x (at - at % 4)) (λ h. ok (record_bytes h)) n p.1 in
     (q.0, q.1, ok_same _ n q.2)
 
-size_is : (r : Res ℕ) → verdict r ≡ Given → r ≡ ok (sizeAnswer r).bytes
+size_is : (r : Res ℕ) → verdict r ≡ Given → r ≡ ok (size_answer r).bytes
 size_is (ok n) v = refl
 size_is (refuse y) v = absurd (let z : ◌≡◌ {A = ℕ} 0 1 = cc in omega arith)
 
 pub size-laws : SizeLaws ours
 size-laws = record {
-  counted = λ x at v. let h = size-head x at _ (size_is (xdataSize x at) v) in sym h.2 ∙ head-words x (at - at % 4) h.0 h.1;
-  inside = λ x at v. let h = size-head x at _ (size_is (xdataSize x at) v) in
-      rw h.2 at (inside x (at - at % 4) (recordBytes h.0) (head_small x (at - at % 4) h.0 h.1).lent);
+  counted = λ x at v. let h = size-head x at _ (size_is (xdata_size x at) v) in sym h.2 ∙ head-words x (at - at % 4) h.0 h.1;
+  inside = λ x at v. let h = size-head x at _ (size_is (xdata_size x at) v) in
+      rw h.2 at (inside x (at - at % 4) (record_bytes h.0) (head_small x (at - at % 4) h.0 h.1).lent);
 }
 
 -- ---- any other number of bytes, wherever a size is given

@@ -2,7 +2,7 @@
 -- Assumes nothing.
 use mathlib.Core.Path.{◌≡◌, refl}
 use Rattle.words.specs.Answer.{Res, ok, refuse}
-use Rattle.unwinding.specs.Singly.{aloneOf}
+use Rattle.unwinding.specs.Singly.{alone_of}
 use Rattle.unwinding.proofs.Singly.{follows, less-room}
 use Rattle.machine.specs.declared.Regs.{Regs}
 use Rattle.frame.specs.Frame.{Caller, frame, unwound}
@@ -11,7 +11,7 @@ use Rattle.demands.specs.Reader.{ours, alone}
 use Rattle.demands.specs.WalkLaws.{WalkLaws}
 use Rattle.demands.proofs.Later.{later-frame}
 
-alone-is : (g : Regs) (x : Res Caller) → alone (unwound g x) ≡ aloneOf arm g x
+alone-is : (g : Regs) (x : Res Caller) → alone (unwound g x) ≡ alone_of arm g x
 alone-is g (ok c) = refl
 alone-is g (refuse r) = refl
 

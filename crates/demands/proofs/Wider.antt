@@ -12,8 +12,8 @@ use lib.Dec.{leb, ltb, eqb}
 use native.Mathlib.Omega.{arith}
 use borrow.Author.Tests.{leb-true, le-leb}
 use Rattle.words.specs.Bits.{bits, bit, even}
-use Rattle.lent.specs.Lent.{Lent, end, holds, wordAt}
-use Rattle.words.specs.Units.{codeWordBytes}
+use Rattle.lent.specs.Lent.{Lent, end, holds, word_at}
+use Rattle.words.specs.Units.{code_word_bytes}
 use Rattle.words.specs.declared.Refusal.TheVariants.{BadStack, OutsideXdata, Reserved, UnfitInput}
 use Rattle.words.specs.Answer.{ok, if◌then◌else◌, maybe}
 use Rattle.unwinding.specs.CodeList.{run}
@@ -21,24 +21,24 @@ use Rattle.unwinding.specs.Shape.{Shape}
 use Rattle.unwinding.specs.View.{view}
 use Rattle.unwinding.specs.Todo.{todo}
 use Rattle.unwinding.proofs.Staying.{Stays, stays-bind, stays-need, stays-test, stays-run}
-use Rattle.codes.specs.Code.{size, codesAt}
+use Rattle.codes.specs.Code.{size, codes_at}
 use Rattle.codes.specs.Condition.{executing}
 use Rattle.codes.specs.declared.Code.{Code}
 use Rattle.codes.specs.declared.Undo.{Undo}
 use Rattle.codes.specs.declared.Undo.TheVariants.{Up, Pop, SpFrom, Vpop, LoadLr, Nothing}
 use Rattle.machine.specs.declared.Regs.{Regs}
-use Rattle.machine.specs.Step.{stands, load, popReg, popD, pop, vpop, effect, step}
+use Rattle.machine.specs.Step.{stands, load, pop_reg, pop_d, pop, vpop, effect, step}
 use Rattle.pdata.specs.declared.Entry.{Entry}
 use Rattle.xdata.specs.declared.Head.{Head}
 use Rattle.pdata.specs.Pdata.{find}
-use Rattle.xdata.specs.Xdata.{X, fitXdata, scopeCount, codesOffset, handlerOffset, recordBytes, shortHead, longHead, headAt, xdataSize}
-use Rattle.xdata.specs.Scopes.{scopesAt}
-use Rattle.record.specs.Record.{full_of, fullShape, packedShape, shape_at, shape_of}
+use Rattle.xdata.specs.Xdata.{X, fit_xdata, scope_count, codes_offset, handler_offset, record_bytes, short_head, long_head, head_at, xdata_size}
+use Rattle.xdata.specs.Scopes.{scopes_at}
+use Rattle.record.specs.Record.{full_of, full_shape, packed_shape, shape_at, shape_of}
 use Rattle.xdata.proofs.Heads.{head_small}
 use Rattle.words.proofs.Tests.{both}
 use Rattle.unwinding.specs.declared.Scope.{Scope}
 use Rattle.walking.specs.declared.Stop.TheVariants as Stop
-use Rattle.frame.specs.Frame.{Inputs, fitStack, uncovered, within, byRecord, frame_of}
+use Rattle.frame.specs.Frame.{Inputs, fit_stack, uncovered, within, by_record, frame_of}
 use Rattle.demands.specs.Demand1.{More, Wider}
 
 -- bytes that are lent lie between the ends
@@ -64,7 +64,7 @@ module _ (l l' : Lent) (m : More l l') where
   byte_at : (i i' : ℕ) → i' ≡ length m.before + i → i < length l.bytes → get_or l'.bytes i' 0 ≡ get_or l.bytes i 0
   byte_at i i' e h = ap (λ j. get_or l'.bytes j 0) e ∙ byte i h
 
-  pub more-word : (a : ℕ) → l.base ≤ a → a + 4 ≤ end l → wordAt l' a ≡ wordAt l a
+  pub more-word : (a : ℕ) → l.base ≤ a → a + 4 ≤ end l → word_at l' a ≡ word_at l a
   more-word a lo hi =
       let i : ℕ = a - l.base in
       let i' : ℕ = a - l'.base in
@@ -105,21 +105,21 @@ module _ (k k' : Lent) (m : More k k') where
   stays-load : (a : ℕ) → Stays (load k a) (load k' a)
   unfolding load
   stays-load a =
-      stays-need (holds k a 4) (holds k' a 4) BadStack (ok (wordAt k a)) (ok (wordAt k' a)) refl (more-holds k k' m a 4)
+      stays-need (holds k a 4) (holds k' a 4) BadStack (ok (word_at k a)) (ok (word_at k' a)) refl (more-holds k k' m a 4)
       (λ h q. let p = inside k a 4 h in ap ok (more-word k k' m a p.0 p.1))
 
-  stays-popReg : (x : ℕ) (g : Regs) → Stays (popReg k x g) (popReg k' x g)
-  unfolding popReg
-  stays-popReg x g = stays-bind (load k g.sp) (load k' g.sp) _ _ (stays-load g.sp) (λ w p e. refl)
+  stays-pop_reg : (x : ℕ) (g : Regs) → Stays (pop_reg k x g) (pop_reg k' x g)
+  unfolding pop_reg
+  stays-pop_reg x g = stays-bind (load k g.sp) (load k' g.sp) _ _ (stays-load g.sp) (λ w p e. refl)
 
-  stays-popD : (x : ℕ) (g : Regs) → Stays (popD k x g) (popD k' x g)
-  unfolding popD
-  stays-popD x g =
+  stays-pop_d : (x : ℕ) (g : Regs) → Stays (pop_d k x g) (pop_d k' x g)
+  unfolding pop_d
+  stays-pop_d x g =
       stays-bind (load k g.sp) (load k' g.sp) _ _ (stays-load g.sp)
       (λ w p. stays-bind (load k (g.sp + 4)) (load k' (g.sp + 4)) _ _ (stays-load (g.sp + 4)) (λ v q e. refl))
 
-  stays-if : (b : Bool) (x : ℕ) (g : Regs) → Stays (if b then popReg k x g else ok g) (if b then popReg k' x g else ok g)
-  stays-if true x g = stays-popReg x g
+  stays-if : (b : Bool) (x : ℕ) (g : Regs) → Stays (if b then pop_reg k x g else ok g) (if b then pop_reg k' x g else ok g)
+  stays-if true x g = stays-pop_reg x g
   stays-if false x g = λ e. refl
 
   stays-pop : (l n : ℕ) (g : Regs) → Stays (pop k l n g) (pop k' l n g)
@@ -130,7 +130,7 @@ module _ (k k' : Lent) (m : More k k') where
   stays-vpop : (x n : ℕ) (g : Regs) → Stays (vpop k x n g) (vpop k' x n g)
   unfolding vpop
   stays-vpop x zero g = λ e. refl
-  stays-vpop x (suc n) g = stays-bind (vpop k x n g) (vpop k' x n g) _ _ (stays-vpop x n g) (λ h p. stays-popD (x + n) h)
+  stays-vpop x (suc n) g = stays-bind (vpop k x n g) (vpop k' x n g) _ _ (stays-vpop x n g) (λ h p. stays-pop_d (x + n) h)
 
   stays-effect : (u : Undo) (g : Regs) → Stays (effect k u g) (effect k' u g)
   stays-effect (Up n) g = λ e. refl
@@ -149,73 +149,73 @@ module _ (k k' : Lent) (m : More k k') where
   stays_within : (s : Shape) (o : ℕ) (g : Regs) → Stays (within k s o g) (within k' s o g)
   unfolding within
   stays_within s o g =
-      stays-bind (view size codesAt s) (view size codesAt s) _ _ (λ e. refl)
+      stays-bind (view size codes_at s) (view size codes_at s) _ _ (λ e. refl)
       (λ v p. stays-bind (todo size executing v o) (todo size executing v o) _ _ (λ e. refl)
       (λ t q. stays-bind (run (step k) t.codes g) (run (step k') t.codes g) _ _ (stays-run (step k) (step k') stays_step t.codes g)
       (λ h r e. refl)))
 
 -- ---- the .xdata
 module _ (x x' : Lent) (m : More x x') where
-  stays-long : (a w : ℕ) → Stays (longHead x a w) (longHead x' a w)
-  unfolding longHead
+  stays-long : (a w : ℕ) → Stays (long_head x a w) (long_head x' a w)
+  unfolding long_head
   stays-long a w =
       stays-need (holds x a 8) (holds x' a 8) OutsideXdata _ _ refl (more-holds x x' m a 8)
       (λ h. let p = inside x a 8 h in
-      let e : wordAt x' (a + 4) ≡ wordAt x (a + 4) = more-word x x' m (a + 4) (omega (arith, p.0)) (omega (arith, p.1)) in
+      let e : word_at x' (a + 4) ≡ word_at x (a + 4) = more-word x x' m (a + 4) (omega (arith, p.0)) (omega (arith, p.1)) in
       rw e (λ q. refl))
 
-  stays-kind : (t : Bool) (a w : ℕ) → Stays (if t then longHead x a w else ok (shortHead w)) (if t then longHead x' a w else ok (shortHead w))
+  stays-kind : (t : Bool) (a w : ℕ) → Stays (if t then long_head x a w else ok (short_head w)) (if t then long_head x' a w else ok (short_head w))
   stays-kind true a w = stays-long a w
   stays-kind false a w = λ e. refl
 
-  pub stays-head : (a : ℕ) → Stays (headAt x a) (headAt x' a)
-  unfolding headAt
+  pub stays-head : (a : ℕ) → Stays (head_at x a) (head_at x' a)
+  unfolding head_at
   stays-head a =
       stays-need (holds x a 4) (holds x' a 4) OutsideXdata _ _ refl (more-holds x x' m a 4)
       (λ h. let p = inside x a 4 h in
-      let e : wordAt x' a ≡ wordAt x a = more-word x x' m a p.0 p.1 in
+      let e : word_at x' a ≡ word_at x a = more-word x x' m a p.0 p.1 in
       rw e
-      (stays-test (eqb (bits 18 2 (wordAt x a)) 0) Reserved _ _
-      (λ q. stays-bind (if eqb (bits 23 9 (wordAt x a)) 0 then longHead x a (wordAt x a) else ok (shortHead (wordAt x a))) (if eqb (bits 23 9 (wordAt x a)) 0 then longHead x' a (wordAt x a) else ok (shortHead (wordAt x a))) _ _ (stays-kind (eqb (bits 23 9 (wordAt x a)) 0) a (wordAt x a))
-      (λ g r. stays-need (holds x a (recordBytes g)) (holds x' a (recordBytes g)) OutsideXdata _ _ refl (more-holds x x' m a (recordBytes g)) (λ s z. refl)))))
+      (stays-test (eqb (bits 18 2 (word_at x a)) 0) Reserved _ _
+      (λ q. stays-bind (if eqb (bits 23 9 (word_at x a)) 0 then long_head x a (word_at x a) else ok (short_head (word_at x a))) (if eqb (bits 23 9 (word_at x a)) 0 then long_head x' a (word_at x a) else ok (short_head (word_at x a))) _ _ (stays-kind (eqb (bits 23 9 (word_at x a)) 0) a (word_at x a))
+      (λ g r. stays-need (holds x a (record_bytes g)) (holds x' a (record_bytes g)) OutsideXdata _ _ refl (more-holds x x' m a (record_bytes g)) (λ s z. refl)))))
 
-  pub stays-size : (a : ℕ) → fitXdata x' ≡ true → Stays (xdataSize x a) (xdataSize x' a)
-  unfolding xdataSize
+  pub stays-size : (a : ℕ) → fit_xdata x' ≡ true → Stays (xdata_size x a) (xdata_size x' a)
+  unfolding xdata_size
   stays-size a f =
-      stays-need (fitXdata x) (fitXdata x') UnfitInput _ _ refl (λ q. f)
-      (λ q. stays-bind (headAt x (a - a % 4)) (headAt x' (a - a % 4)) _ _ (stays-head (a - a % 4)) (λ h p e. refl))
+      stays-need (fit_xdata x) (fit_xdata x') UnfitInput _ _ refl (λ q. f)
+      (λ q. stays-bind (head_at x (a - a % 4)) (head_at x' (a - a % 4)) _ _ (stays-head (a - a % 4)) (λ h p e. refl))
 
-  same-scopes : (n a : ℕ) → x.base ≤ a → a + 4 * n ≤ end x → scopesAt x' a n ≡ scopesAt x a n
-  unfolding scopesAt
+  same-scopes : (n a : ℕ) → x.base ≤ a → a + 4 * n ≤ end x → scopes_at x' a n ≡ scopes_at x a n
+  unfolding scopes_at
   same-scopes zero a lo hi = refl
   same-scopes (suc n) a lo hi =
-      let e : wordAt x' a ≡ wordAt x a = more-word x x' m a lo (omega arith) in
+      let e : word_at x' a ≡ word_at x a = more-word x x' m a lo (omega arith) in
       let r = same-scopes n (a + 4) (omega arith) (omega arith) in
       rw (e, r) refl
 
-  same-handler : (t : Bool) (a : ℕ) → x.base ≤ a → a + (if t then 4 else 0) ≤ end x → (if t then wordAt x' a else 0) ≡ (if t then wordAt x a else 0)
+  same-handler : (t : Bool) (a : ℕ) → x.base ≤ a → a + (if t then 4 else 0) ≤ end x → (if t then word_at x' a else 0) ≡ (if t then word_at x a else 0)
   same-handler true a lo hi = more-word x x' m a lo hi
   same-handler false a lo hi = refl
 
-  same_full : (a : ℕ) (h : Head) (listed : List Scope) → x.base ≤ a → a + recordBytes h ≤ end x → full_of x' a h listed ≡ full_of x a h listed
+  same_full : (a : ℕ) (h : Head) (listed : List Scope) → x.base ≤ a → a + record_bytes h ≤ end x → full_of x' a h listed ≡ full_of x a h listed
   same_full a h listed lo hi =
-      let c = more_bytes x x' m (a + codesOffset h) (codeWordBytes h.codewords).0 (omega arith) (omega arith) in
-      let r = same-handler (X h) (a + handlerOffset h) (omega arith) (omega arith) in
+      let c = more_bytes x x' m (a + codes_offset h) (code_word_bytes h.codewords).0 (omega arith) (omega arith) in
+      let r = same-handler (X h) (a + handler_offset h) (omega arith) (omega arith) in
       rw (c, r) refl
 
-  stays-full : (a : ℕ) → Stays (fullShape x a) (fullShape x' a)
-  unfolding fullShape
+  stays-full : (a : ℕ) → Stays (full_shape x a) (full_shape x' a)
+  unfolding full_shape
   stays-full a =
-      stays-bind (headAt x a) (headAt x' a) _ _ (stays-head a)
-      (λ h p. let w = inside x a (recordBytes h) (head_small x a h p).lent in
-      let s = same-scopes (scopeCount h) (a + h.bytes) (omega (arith, w.0)) (omega (arith, w.1)) in
-      stays-bind (scopesAt x (a + h.bytes) (scopeCount h)) (scopesAt x' (a + h.bytes) (scopeCount h)) _ _ (λ e. s)
+      stays-bind (head_at x a) (head_at x' a) _ _ (stays-head a)
+      (λ h p. let w = inside x a (record_bytes h) (head_small x a h p).lent in
+      let s = same-scopes (scope_count h) (a + h.bytes) (omega (arith, w.0)) (omega (arith, w.1)) in
+      stays-bind (scopes_at x (a + h.bytes) (scope_count h)) (scopes_at x' (a + h.bytes) (scope_count h)) _ _ (λ e. s)
       (λ l q e. ap ok (same_full a h l w.0 w.1)))
 
   pub stays_at : (w : ℕ) → Stays (shape_at x w) (shape_at x' w)
   stays_at w = go (eqb (bits 0 2 w) 0)
     where
-      go : (t : Bool) → Stays (if t then fullShape x w else packedShape w) (if t then fullShape x' w else packedShape w)
+      go : (t : Bool) → Stays (if t then full_shape x w else packed_shape w) (if t then full_shape x' w else packed_shape w)
       go true = stays-full w
       go false = λ q. refl
 
@@ -225,21 +225,21 @@ module _ (t t' : Inputs) (w : Wider t t') (first : Bool) where
   stays-covered true s o g = stays_within t.stack t'.stack w.stack s o g
   stays-covered false s o g = λ e. refl
 
-  stays-record : (e : Entry) (g : Regs) → Stays (byRecord first t e g) (byRecord first t' e g)
-  unfolding byRecord
+  stays-record : (e : Entry) (g : Regs) → Stays (by_record first t e g) (by_record first t' e g)
+  unfolding by_record
   stays-record e g =
       rw w.image
       (stays-bind (shape_of t.xdata e) (shape_of t'.xdata e) _ _ (stays_at t.xdata t'.xdata w.xdata e.word)
       (λ s p. stays-covered (ltb (even g.pc - t.image - e.start) s.span) s (even g.pc - t.image - e.start) g))
 
-  stays-found : (e : Option Entry) (g : Regs) → Stays (maybe e (uncovered first g) (λ e. byRecord first t e g)) (maybe e (uncovered first g) (λ e. byRecord first t' e g))
+  stays-found : (e : Option Entry) (g : Regs) → Stays (maybe e (uncovered first g) (λ e. by_record first t e g)) (maybe e (uncovered first g) (λ e. by_record first t' e g))
   stays-found none g = λ e. refl
   stays-found (some e) g = stays-record e g
 
   pub stays-frame : (g : Regs) → Stays (frame_of first t g) (frame_of first t' g)
   unfolding frame_of
   stays-frame g =
-      stays-need (fitStack t.stack && fitXdata t.xdata) (fitStack t'.stack && fitXdata t'.xdata) UnfitInput _ _ refl (λ q. w.fit)
+      stays-need (fit_stack t.stack && fit_xdata t.xdata) (fit_stack t'.stack && fit_xdata t'.xdata) UnfitInput _ _ refl (λ q. w.fit)
       (λ q. stays-bind (find t.image t.pdata g.pc) (find t'.image t'.pdata g.pc) _ _ (λ e. rw (w.image, w.pdata) refl)
       (λ e p. stays-need (stands t.stack g.sp) (stands t'.stack g.sp) BadStack _ _ refl (more-stands t.stack t'.stack w.stack g.sp)
       (λ r. stays-found e g)))

@@ -8,32 +8,32 @@ use Rattle.lent.specs.Lent.{Lent}
 use Rattle.unwinding.specs.Shape.{Shape}
 use Rattle.unwinding.specs.View.{View, view}
 use Rattle.unwinding.specs.Todo.{todo}
-use Rattle.codes.specs.Code.{size, codesAt}
+use Rattle.codes.specs.Code.{size, codes_at}
 use Rattle.codes.specs.Condition.{executing}
 use Rattle.codes.specs.declared.Code.{Code}
 use Rattle.machine.specs.declared.Regs.{Regs}
-use Rattle.packed.specs.Packed.{Fit, fields, allowed, packedSpan, packedFragment}
+use Rattle.packed.specs.Packed.{Fit, fields, allowed, packed_span, packed_fragment}
 use Rattle.packed.specs.declared.Packed.{Packed}
-use Rattle.packed_codes.specs.PackedCodes.{pushed, chainAlone}
-use Rattle.packed_codes.specs.Lists.{prologueCodes}
-use Rattle.packed_codes.specs.Chain.{writtenBefore, Chained}
-use Rattle.record.specs.Record.{lastScope, packedShape}
+use Rattle.packed_codes.specs.PackedCodes.{pushed, chain_alone}
+use Rattle.packed_codes.specs.Lists.{prologue_codes}
+use Rattle.packed_codes.specs.Chain.{written_before, Chained}
+use Rattle.record.specs.Record.{last_scope, packed_shape}
 use Rattle.frame.specs.Frame.{Caller, within}
 
 -- a packed record before the order
-unfoldable pub shapeBefore : ℕ → Res Shape
-shapeBefore w = do
+unfoldable pub shape_before : ℕ → Res Shape
+shape_before w = do
   need (allowed (fields w)) Reserved
   let p = fields w
-  let c = writtenBefore p
-  ok (record { span = packedSpan p; codes = c.bytes; fragment = packedFragment p; scopes = if eqb p.ret 3 then [] else lastScope c.first ∷ []; handler = 0 })
+  let c = written_before p
+  ok (record { span = packed_span p; codes = c.bytes; fragment = packed_fragment p; scopes = if eqb p.ret 3 then [] else last_scope c.first ∷ []; handler = 0 })
 
 -- one frame at an offset of a packed word's function: its answer, and the one before the order
 abbrev pub now : Lent → (word offset : ℕ) → Regs → Res Caller
-now k w o g = packedShape w >>= λ s. within k s o g
+now k w o g = packed_shape w >>= λ s. within k s o g
 
 abbrev pub before : Lent → (word offset : ℕ) → Regs → Res Caller
-before k w o g = shapeBefore w >>= λ s. within k s o g
+before k w o g = shape_before w >>= λ s. within k s o g
 
 -- the bytes of what stands before the nop: push {r0-r3}, if H=1, and the push of r11 and LR
 abbrev pub pushes : Packed → ℕ
@@ -42,7 +42,7 @@ pushes p = (if eqb p.h 1 then 2 else 0) + 4
 -- a word that pushes r11 and LR and nothing else, and that passed 6 and 7 before: `v` is its view then
 pub record Moved (w : ℕ) (v : View Code) : Type 0 where
   -- it passes them still: the prologue is two bytes shorter, if there is one, and the epilogues are where they were
-  pub passes : (packedShape w >>= view size codesAt) ≡ ok (record { codes = prologueCodes (fields w); prologue = v.prologue - 2; epilogues = v.epilogues })
+  pub passes : (packed_shape w >>= view size codes_at) ≡ ok (record { codes = prologue_codes (fields w); prologue = v.prologue - 2; epilogues = v.epilogues })
   -- up to the nop, and past the prologue that it had, the answer is the one that it was
   pub until : (k : Lent) (o : ℕ) (g : Regs) → o ≤ pushes (fields w) → now k w o g ≡ before k w o g
   pub past : (k : Lent) (o : ℕ) (g : Regs) → v.prologue ≤ o → now k w o g ≡ before k w o g
@@ -51,14 +51,14 @@ pub record Moved (w : ℕ) (v : View Code) : Type 0 where
   -- and the last two bytes of the prologue that it had are body
   pub freed :
       (o : ℕ) → o < v.prologue → v.prologue ≤ o + 2
-      → (packedShape w >>= view size codesAt >>= λ u. todo size executing u o) ≡ ok (record { place = Body; codes = (prologueCodes (fields w)).list })
+      → (packed_shape w >>= view size codes_at >>= λ u. todo size executing u o) ≡ ok (record { place = Body; codes = (prologue_codes (fields w)).list })
 
 pub record Order4 : Type 0 where
   pub lists : (p : Packed) → Fit p → Chained p
   -- any other packed word is the record that it was
-  pub others : (w : ℕ) → chainAlone (pushed (fields w)) ≡ false → packedShape w ≡ shapeBefore w
+  pub others : (w : ℕ) → chain_alone (pushed (fields w)) ≡ false → packed_shape w ≡ shape_before w
   -- of these words, one that was refused is refused the same, unless it was by 7
   pub refused :
-      (w : ℕ) (r : Refusal) → chainAlone (pushed (fields w)) ≡ true → (shapeBefore w >>= view size codesAt) ≡ refuse r
-      → (r ≡ BadLayout) ⊎ ((packedShape w >>= view size codesAt) ≡ refuse r)
-  pub moved : (w : ℕ) (v : View Code) → chainAlone (pushed (fields w)) ≡ true → (shapeBefore w >>= view size codesAt) ≡ ok v → Moved w v
+      (w : ℕ) (r : Refusal) → chain_alone (pushed (fields w)) ≡ true → (shape_before w >>= view size codes_at) ≡ refuse r
+      → (r ≡ BadLayout) ⊎ ((packed_shape w >>= view size codes_at) ≡ refuse r)
+  pub moved : (w : ℕ) (v : View Code) → chain_alone (pushed (fields w)) ≡ true → (shape_before w >>= view size codes_at) ≡ ok v → Moved w v

@@ -2,17 +2,17 @@
 -- answers every input.
 use Rattle.std.specs.Prelude.{ℕ, ◌+◌, ◌≤◌, ◌≡◌, ◌≢◌, ◌⊎◌, List, [], ◌++◌, true, false, ◌&&◌, length, replicate}
 use Rattle.lent.specs.Lent.{Lent}
-use Rattle.words.specs.Refusals.{number, verdictNumber}
+use Rattle.words.specs.Refusals.{number, verdict_number}
 use Rattle.words.specs.declared.Refusal.{Refusal}
 use Rattle.words.specs.declared.Verdict.TheVariants as Verdict
 use Rattle.words.specs.Answer.{refuse}
-use Rattle.unwinding.specs.Extent.{ofExtent}
+use Rattle.unwinding.specs.Extent.{of_extent}
 use Rattle.unwinding.specs.Singly.{Untouched, Agree}
 use Rattle.machine.specs.declared.Regs.{Regs}
-use Rattle.xdata.specs.Xdata.{fitXdata}
+use Rattle.xdata.specs.Xdata.{fit_xdata}
 use Rattle.pdata.specs.declared.Found.TheVariants as Found
 use Rattle.packed.specs.declared.Packed.{Packed}
-use Rattle.frame.specs.Frame.{Inputs, fitStack, unwound}
+use Rattle.frame.specs.Frame.{Inputs, fit_stack, unwound}
 use Rattle.walking.specs.Walk.{arm}
 use Rattle.walking.specs.declared.Frame.{Frame}
 use Rattle.walking.specs.declared.Stop.TheVariants as Stop
@@ -32,7 +32,7 @@ pub record Wider (t t' : Inputs) : Type 0 where
   pub pdata : t'.pdata ≡ t.pdata
   pub xdata : More t.xdata t'.xdata
   pub stack : More t.stack t'.stack
-  pub fit : (fitStack t'.stack && fitXdata t'.xdata) ≡ true
+  pub fit : (fit_stack t'.stack && fit_xdata t'.xdata) ≡ true
 
 -- both programs print of a file what refusal 14 prints
 abbrev pub Unfit : Reader → (file : List ℕ) → Type 0
@@ -53,11 +53,11 @@ pub record Demand1 (a : Reader) : Type 0 where
   pub untouched : (t : Inputs) (g : Regs) (l : List Frame) → Untouched arm l (seen (a.walk t g l))
   -- only lent bytes are read, and a missing one does not count as 0 (RULES 1.8): an answer, given or refused by anything but how much is
   -- lent, does not change with what lies beyond
-  pub frame-stays : (t t' : Inputs) (g : Regs) → Wider t t' → ofExtent (verdictNumber (a.unwind t g).verdict) ≡ false → a.unwind t' g ≡ a.unwind t g
-  pub walk-stays : (t t' : Inputs) (g : Regs) (l : List Frame) → Wider t t' → ((r : Refusal) (pc : ℕ) → (a.walk t g l).walked.stop ≡ Stop.Refused r pc → ofExtent (number r) ≡ false) → a.walk t' g l ≡ a.walk t g l
+  pub frame-stays : (t t' : Inputs) (g : Regs) → Wider t t' → of_extent (verdict_number (a.unwind t g).verdict) ≡ false → a.unwind t' g ≡ a.unwind t g
+  pub walk-stays : (t t' : Inputs) (g : Regs) (l : List Frame) → Wider t t' → ((r : Refusal) (pc : ℕ) → (a.walk t g l).walked.stop ≡ Stop.Refused r pc → of_extent (number r) ≡ false) → a.walk t' g l ≡ a.walk t g l
   -- so too for the frames that a walk lists before it is refused, by any number
   pub listed-stay : (t t' : Inputs) (g : Regs) (l : List Frame) → Wider t t' → Agree arm (a.walk t g l).walked.frames (seen (a.walk t g l)) (seen (a.walk t' g l))
-  pub size-stays : (x x' : Lent) (at : ℕ) → More x x' → fitXdata x' ≡ true → ofExtent (verdictNumber (a.size x at).verdict) ≡ false → a.size x' at ≡ a.size x at
+  pub size-stays : (x x' : Lent) (at : ℕ) → More x x' → fit_xdata x' ≡ true → of_extent (verdict_number (a.size x at).verdict) ≡ false → a.size x' at ≡ a.size x at
   -- a report ends with its parts (RULES 8.2): cut short, or with more bytes, it is none
   pub whole-file : (file more : List ℕ) → more ≢ [] → Unfit a file ⊎ Unfit a (file ++ more)
   -- what the programs print fits their buffers (RULES 8.7)

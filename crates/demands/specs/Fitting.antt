@@ -2,15 +2,15 @@
 use Rattle.std.specs.Prelude.{ℕ, ◌≤◌, ◌<◌, ◌≡◌, ◌⊎◌, Bool, true, false, not, List, ◌++◌}
 use Rattle.words.specs.Refusals.{number}
 use Rattle.lent.specs.Lent.{Lent}
-use Rattle.unwinding.specs.Extent.{ofExtent}
-use Rattle.xdata.specs.Xdata.{fitXdata}
-use Rattle.fitting.specs.Fitting.{fitNumber, fitted}
+use Rattle.unwinding.specs.Extent.{of_extent}
+use Rattle.xdata.specs.Xdata.{fit_xdata}
+use Rattle.fitting.specs.Fitting.{fit_number, fitted}
 use Rattle.fitting.specs.Exactly.{Exactly}
 use Rattle.fitting.specs.declared.FitRefusal.{FitRefusal}
 use Rattle.fitting.specs.declared.FitRefusal.TheVariants.{Record, Short, Differs}
 use Rattle.fitting.specs.declared.Fitted.{Fitted}
 use Rattle.fitting.specs.declared.Fitted.TheVariants.{Fits, Refused}
-use Rattle.fits_text.specs.FitsText.{fitsText}
+use Rattle.fits_text.specs.FitsText.{fits_text}
 use Rattle.demands.specs.Demand1.{More}
 
 -- what a checker answers: whether the record that word 1 leads to fits a function's code; the text of a FIT file
@@ -18,13 +18,13 @@ pub record Checker : Type 0 where
   pub fits : (xdata : Lent) → (word : ℕ) → (code : List ℕ) → Fitted
   pub text : (file : List ℕ) → List ℕ
 
-abbrev pub oursOfFits : Checker
-oursOfFits = record { fits = fitted; text = fitsText }
+abbrev pub ours_of_fits : Checker
+ours_of_fits = record { fits = fitted; text = fits_text }
 
 -- an answer that does not say that something is not lent
 abbrev pub lasts : Fitted → Bool
 lasts Fits = true
-lasts (Refused (Record r)) = not (ofExtent (number r))
+lasts (Refused (Record r)) = not (of_extent (number r))
 lasts (Refused Short) = false
 lasts (Refused (Differs o)) = true
 
@@ -34,11 +34,11 @@ FitNumber k = (k ≡ 1) ⊎ ((4 ≤ k) × (k ≤ 7)) ⊎ (k ≡ 17) ⊎ (k ≡ 1
 
 pub record Order3 (a : Checker) : Type 0 where
   -- the answers are those of the definitions
-  pub told : (x : Lent) (w : ℕ) (s : List ℕ) → a.fits x w s ≡ oursOfFits.fits x w s
-  pub printed : (file : List ℕ) → a.text file ≡ oursOfFits.text file
+  pub told : (x : Lent) (w : ℕ) (s : List ℕ) → a.fits x w s ≡ ours_of_fits.fits x w s
+  pub printed : (file : List ℕ) → a.text file ≡ ours_of_fits.text file
   -- a record passes exactly if each of its instructions is the one that its code stands for, and so for each refusal
   pub exactly : (x : Lent) (w : ℕ) (s : List ℕ) → Exactly (a.fits x w s) x w s
-  pub numbered : (x : Lent) (w : ℕ) (s : List ℕ) (r : FitRefusal) → a.fits x w s ≡ Refused r → FitNumber (fitNumber r)
+  pub numbered : (x : Lent) (w : ℕ) (s : List ℕ) (r : FitRefusal) → a.fits x w s ≡ Refused r → FitNumber (fit_number r)
   -- only lent bytes are read (RULES 1.8): with more.xdata around the same bytes, and more code behind the function, an answer stays, unless it
   -- was that something is not there
-  pub stays : (x x' : Lent) (w : ℕ) (s more : List ℕ) → More x x' → fitXdata x' ≡ true → lasts (a.fits x w s) ≡ true → a.fits x' w (s ++ more) ≡ a.fits x w s
+  pub stays : (x x' : Lent) (w : ℕ) (s more : List ℕ) → More x x' → fit_xdata x' ≡ true → lasts (a.fits x w s) ≡ true → a.fits x' w (s ++ more) ≡ a.fits x w s

@@ -4,9 +4,9 @@ use Rattle.lent.specs.Lent.{Lent}
 use Rattle.unwinding.specs.Singly as Singly
 use Rattle.machine.specs.declared.Regs.{Regs}
 use Rattle.pdata.specs.Pdata.{find, found}
-use Rattle.xdata.specs.Xdata.{xdataSize, sizeAnswer}
-use Rattle.packed.specs.Packed.{writeWord, wordAnswer}
-use Rattle.packed_codes.specs.PackedCodes.{writeCodes, codesAnswer}
+use Rattle.xdata.specs.Xdata.{xdata_size, size_answer}
+use Rattle.packed.specs.Packed.{write_word, word_answer}
+use Rattle.packed_codes.specs.PackedCodes.{write_codes, codes_answer}
 use Rattle.pdata.specs.declared.Found.{Found}
 use Rattle.xdata.specs.declared.SizeOf.{SizeOf}
 use Rattle.packed.specs.declared.Packed.{Packed}
@@ -19,7 +19,7 @@ use Rattle.walking.specs.Walk.{arm}
 use Rattle.walking.specs.declared.Frame.{Frame}
 use Rattle.walking.specs.declared.WalkedAll.{WalkedAll}
 use Rattle.listing.specs.Listing.{listing}
-use Rattle.caller_text.specs.CallerText.{callerText}
+use Rattle.caller_text.specs.CallerText.{caller_text}
 
 -- the operations of RULES 1.2, in that order, with a report's two texts at the end
 pub record Reader : Type 0 where
@@ -44,10 +44,10 @@ abbrev pub ours : Reader
 ours = record {
   find = λ image pdata pc. found (find image pdata pc);
   unwind = λ t g. unwound g (frame t g);
-  walk = λ t g l. Walking.walkedAll l (Walking.walk t (length l) g);
-  size = λ x at. sizeAnswer (xdataSize x at);
-  word = λ p. wordAnswer (writeWord p);
-  codes = λ w. codesAnswer (writeCodes w);
+  walk = λ t g l. Walking.walked_all l (Walking.walk t (length l) g);
+  size = λ x at. size_answer (xdata_size x at);
+  word = λ p. word_answer (write_word p);
+  codes = λ w. codes_answer (write_codes w);
   list = listing;
-  show = callerText;
+  show = caller_text;
 }

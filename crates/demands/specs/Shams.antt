@@ -1,8 +1,8 @@
 -- Shams (RULES 10.23): readers that look like one, and that a demand must break (proofs/Refuted.antt).
 use Rattle.std.specs.Prelude.{ℕ, ◌-◌, ◌<◌, ◌≡◌, List, [], ◌∷◌, ◌++◌, leb, eqb, length, take, replicate, get_or}
 use Rattle.words.specs.Bits.{bit}
-use Rattle.lent.specs.Lent.{Lent, wordAt}
-use Rattle.words.specs.Units.{codeBytes}
+use Rattle.lent.specs.Lent.{Lent, word_at}
+use Rattle.words.specs.Units.{code_bytes}
 use Rattle.words.specs.declared.Refusal.{Refusal}
 use Rattle.words.specs.declared.Verdict.TheVariants.{Given}
 use Rattle.words.specs.Answer.{ok, refuse, if◌then◌else◌}
@@ -10,7 +10,7 @@ use Rattle.machine.specs.declared.Regs.{Regs}
 use Rattle.packed.specs.declared.Packed.{Packed}
 use Rattle.packed.specs.declared.WordOf.{WordOf}
 use Rattle.packed_codes.specs.declared.CodesOf.{CodesOf}
-use Rattle.frame.specs.Frame.{Inputs, unwound, leafOf}
+use Rattle.frame.specs.Frame.{Inputs, unwound, leaf_of}
 use Rattle.frame.specs.declared.Unwound.{Unwound}
 use Rattle.walking.specs.declared.Frame.{Frame}
 use Rattle.walking.specs.declared.WalkedAll.{WalkedAll}
@@ -31,7 +31,7 @@ fixed u = with-unwind (λ t g. u)
 
 -- it answers like a leaf
 abbrev pub as-leaf : Reader
-as-leaf = with-unwind (λ t g. unwound g (ok (leafOf g)))
+as-leaf = with-unwind (λ t g. unwound g (ok (leaf_of g)))
 
 -- its count of codes is made up, in any way
 abbrev pub recounted : ℕ → Unwound → Unwound
@@ -69,7 +69,7 @@ resized n =
     record { find = ours.find; unwind = ours.unwind; walk = ours.walk; size = λ x at. record { verdict = (ours.size x at).verdict; bytes = n x at }; word = ours.word; codes = ours.codes; list = ours.list; show = ours.show }
 
 abbrev pub handlerless : Lent → ℕ → ℕ
-handlerless x at = (ours.size x at).bytes - (if bit 20 (wordAt x at) then 4 else 0)
+handlerless x at = (ours.size x at).bytes - (if bit 20 (word_at x at) then 4 else 0)
 
 -- ours, but for packed words and their code bytes
 abbrev pub with-packed : (Packed → WordOf) → (ℕ → CodesOf) → Reader
@@ -84,7 +84,7 @@ forgetting =
 -- other lists for one word
 abbrev pub coding : ℕ → (first second : List ℕ) → Reader
 coding word k l =
-    with-packed ours.word (λ w. if eqb w word then record { verdict = Given; bytes = take 16 (k ++ l ++ replicate 16 0); first = codeBytes (length k); second = codeBytes (length l) } else ours.codes w)
+    with-packed ours.word (λ w. if eqb w word then record { verdict = Given; bytes = take 16 (k ++ l ++ replicate 16 0); first = code_bytes (length k); second = code_bytes (length l) } else ours.codes w)
 
 -- pop {r4,lr} coded as D4, of 16 bits, while it has 32 (RULES 4.20), in an epilogue that branches: Ret=1, L=1
 abbrev pub narrow-pop : Reader

@@ -2,14 +2,14 @@
 -- and all of them lent.
 use Rattle.std.specs.Prelude.{ℕ, ◌+◌, ◌-◌, ◌*◌, ◌%◌, ◌≤◌, ◌≡◌, eqb}
 use Rattle.words.specs.Bits.{bits, bit}
-use Rattle.lent.specs.Lent.{Lent, end, wordAt}
+use Rattle.lent.specs.Lent.{Lent, end, word_at}
 use Rattle.words.specs.declared.Verdict.TheVariants.{Given}
 use Rattle.words.specs.Answer.{if◌then◌else◌}
 use Rattle.demands.specs.Reader.{Reader}
 
 -- the words of a record that begins with w and v: its head, its scopes, its codes and its handler (RULES 2.8 to 2.13)
-abbrev pub wordCount : (w v : ℕ) → ℕ
-wordCount w v =
+abbrev pub word_count : (w v : ℕ) → ℕ
+word_count w v =
     let long = eqb (bits 23 9 w) 0 in
     (if long then 2 else 1) + (if bit 21 w then 0 else (if long then bits 0 16 v else bits 23 5 w))
     + (if long then bits 16 8 v else bits 28 4 w)
@@ -18,5 +18,5 @@ wordCount w v =
 -- of the size given for a record's RVA, whose bits 0-1 are cleared (RULES 2.13)
 pub record SizeLaws (a : Reader) : Type 0 where
   pub counted : (x : Lent) (at : ℕ) → (a.size x at).verdict ≡ Given
-      → (a.size x at).bytes ≡ 4 * wordCount (wordAt x (at - at % 4)) (wordAt x (at - at % 4 + 4))
+      → (a.size x at).bytes ≡ 4 * word_count (word_at x (at - at % 4)) (word_at x (at - at % 4 + 4))
   pub inside : (x : Lent) (at : ℕ) → (a.size x at).verdict ≡ Given → (x.base ≤ at - at % 4) × (at - at % 4 + (a.size x at).bytes ≤ end x)

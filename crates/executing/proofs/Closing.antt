@@ -9,7 +9,7 @@ use lib.Dec.{eqb}
 use native.Mathlib.Omega.{arith}
 use borrow.Author.Tests.{eqb-true, lt-ltb, ne_eqb}
 use Rattle.words.specs.Bits.{bit, bits}
-use Rattle.words.specs.Units.{stackBytes}
+use Rattle.words.specs.Units.{stack_bytes}
 use Rattle.words.specs.Answer.{ok, ◌>>=◌, if◌then◌else◌}
 use Rattle.words.proofs.Answers.{bind_ok, ok_same}
 use Rattle.lent.specs.Lent.{Lent}
@@ -17,13 +17,13 @@ use Rattle.codes.specs.declared.Undo.{Undo}
 use Rattle.codes.specs.declared.Undo.TheVariants.{Up, Pop, SpFrom, Vpop, LoadLr, Nothing}
 use Rattle.codes.proofs.Registers.{RegisterList, list-small, list-no-sp}
 use Rattle.codes.proofs.Sound.{Sound}
-use Rattle.machine.specs.Registers.{reg, setReg, setSp}
-use Rattle.machine.specs.Step.{load, popReg, effect}
+use Rattle.machine.specs.Registers.{reg, set_reg, set_sp}
+use Rattle.machine.specs.Step.{load, pop_reg, effect}
 use Rattle.machine.specs.declared.Regs.{Regs}
-use Rattle.thumb.specs.Instruction.{instructionAt}
+use Rattle.thumb.specs.Instruction.{instruction_at}
 use Rattle.thumb.specs.declared.Action.{Action}
 use Rattle.thumb.specs.declared.Action.TheVariants as T
-use Rattle.expected.specs.Expected.{loading, actsAfter}
+use Rattle.expected.specs.Expected.{loading, acts_after}
 use Rattle.comparing.specs.Items.{Coded, closes, item}
 use Rattle.fitting.specs.Exactly.{As, Stands}
 use Rattle.forward.specs.Registers.{value}
@@ -38,11 +38,11 @@ use Rattle.executing.proofs.Popping.{bytes-append, Like, Loaded, loaded-reg, loa
 
 -- what was executed, by the code
 abbrev pub Closing : Undo → State → State → Type 0
-Closing (Up n) s t = Loads (stackBytes n) [] s t
+Closing (Up n) s t = Loads (stack_bytes n) [] s t
 Closing (Pop l) s t = Loads (bytes (saves (Pop l))) (saves (Pop l)) s t
 Closing (SpFrom x) s t = Moves 13 x s t
 Closing (Vpop a b) s t = Loads (bytes (saves (Vpop a b))) (saves (Vpop a b)) s t
-Closing (LoadLr n) s t = Loads (stackBytes n) (14 ∷ []) s t
+Closing (LoadLr n) s t = Loads (stack_bytes n) (14 ∷ []) s t
 Closing Nothing s t = Unit {0}
 
 -- a code's list has no pc
@@ -65,12 +65,12 @@ loaded-lr n a s t h f = go (eqb n 4) refl (subst (λ x. Acts x s t) h f)
     go true e g = subst (λ m. Loads m (14 ∷ []) s t) (sym (eqb-true n 4 e)) g
     go false e g = g
 
-pub closing : (u : Undo) (a : Action) (s t : State) → Sound u → As (actsAfter false u) a → Acts a s t → Closing u s t
+pub closing : (u : Undo) (a : Action) (s t : State) → Sound u → As (acts_after false u) a → Acts a s t → Closing u s t
 closing (Up n) a s t o e f = subst (λ x. Acts x s t) e f
 closing (Pop l) a s t o e f = popped l s t o (subst (λ x. Acts x s t) e f)
 closing (SpFrom x) a s t o e f = subst (λ y. Acts y s t) e f
 closing (Vpop i j) a s t o e f = subst (λ x. Acts x s t) e f
-closing (LoadLr n) a s t o e f = loaded-lr (stackBytes n) a s t e f
+closing (LoadLr n) a s t o e f = loaded-lr (stack_bytes n) a s t e f
 closing Nothing a s t o e f = tt
 
 -- ---- what it comes to
@@ -94,26 +94,26 @@ loaded-done xs s t after f l m = loads-done (bytes xs) xs s t after f l.whole l.
 pub record LrLoaded (k : Lent) (n : ℕ) (g after : Regs) : Type 0 where
   pub word : ℕ
   pub given : load k g.sp ≡ ok word
-  pub is : setSp (setReg g 14 word) (g.sp + n) ≡ after
+  pub is : set_sp (set_reg g 14 word) (g.sp + n) ≡ after
 
-pub lr-loaded : (k : Lent) (n : ℕ) (g after : Regs) → (load k g.sp >>= λ w. ok (setSp (setReg g 14 w) (g.sp + n))) ≡ ok after → LrLoaded k n g after
+pub lr-loaded : (k : Lent) (n : ℕ) (g after : Regs) → (load k g.sp >>= λ w. ok (set_sp (set_reg g 14 w) (g.sp + n))) ≡ ok after → LrLoaded k n g after
 lr-loaded k n g after e = let a = bind_ok (load k g.sp) _ after e in record { word = a.0; given = a.1; is = ok_same _ _ a.2 }
 
-lr-popped : (k : Lent) (g : Regs) (w : ℕ) → load k g.sp ≡ ok w → popReg k 14 g ≡ ok (setSp (setReg g 14 w) (g.sp + 4))
-unfolding popReg
+lr-popped : (k : Lent) (g : Regs) (w : ℕ) → load k g.sp ≡ ok w → pop_reg k 14 g ≡ ok (set_sp (set_reg g 14 w) (g.sp + 4))
+unfolding pop_reg
 lr-popped k g w e = rw e refl
 
 lr-done : (n : ℕ) (s t : State) (after : Regs) → Loads n (14 ∷ []) s t → LrLoaded s.stack n s.regs after → after.sp < 2 ^ 32 → Done s t after
 lr-done n s t after f l m =
     let g : Regs = s.regs in
-    let h : Regs = setSp (setReg g 14 l.word) (g.sp + n) in
-    let z : Loaded s.stack g (14 ∷ []) (setSp (setReg g 14 l.word) (g.sp + 4)) =
+    let h : Regs = set_sp (set_reg g 14 l.word) (g.sp + n) in
+    let z : Loaded s.stack g (14 ∷ []) (set_sp (set_reg g 14 l.word) (g.sp + 4)) =
     loaded-reg s.stack 14 g _ (omega arith) (λ q. omega arith) s.whole (lr-popped s.stack g l.word l.given) in
     subst (Done s t) l.is
     (loads-done n (14 ∷ []) s t h f (record { r = z.whole.r; d = z.whole.d }) refl
     (subst (λ (x : Regs). x.sp < 2 ^ 32) (sym l.is) m) z.same)
 
-from-done : (x : ℕ) (s t : State) → x < 15 → x ≢ 13 → Moves 13 x s t → Done s t (setSp s.regs (reg s.regs x))
+from-done : (x : ℕ) (s t : State) → x < 15 → x ≢ 13 → Moves 13 x s t → Done s t (set_sp s.regs (reg s.regs x))
 from-done x s t l n f =
     let g : Regs = s.regs in
     let x15 : x ≢ 15 = λ q. omega arith in
@@ -123,15 +123,15 @@ from-done x s t l n f =
 done-of : (u : Undo) (s t : State) (after : Regs) → u ≢ Nothing → Sound u → Closing u s t → effect s.stack u s.regs ≡ ok after → after.sp < 2 ^ 32 → Done s t after
 done-of (Up n) s t after k o f e m =
     let g : Regs = s.regs in
-    let z : setSp g (g.sp + stackBytes n) ≡ after = ok_same _ _ e in
+    let z : set_sp g (g.sp + stack_bytes n) ≡ after = ok_same _ _ e in
     subst (Done s t) z
-    (loads-done (stackBytes n) [] s t (setSp g (g.sp + stackBytes n)) f (record { r = s.whole.r; d = s.whole.d }) refl
+    (loads-done (stack_bytes n) [] s t (set_sp g (g.sp + stack_bytes n)) f (record { r = s.whole.r; d = s.whole.d }) refl
     (subst (λ (x : Regs). x.sp < 2 ^ 32) (sym z) m) (λ h a x like. sym (like (λ q. q))))
 done-of (Pop l) s t after k o f e m = loaded-done (saves (Pop l)) s t after f (loaded-list s.stack l 15 s.regs after (list-no-sp l o) (omega arith) s.whole e) m
 done-of (SpFrom x) s t after k o f e m = subst (Done s t) (ok_same _ _ e) (from-done x s t o.0 o.1 f)
 done-of (Vpop a b) s t after k o f e m =
     loaded-done (saves (Vpop a b)) s t after f (loaded-up s.stack a (b + 1 - a) s.regs after (λ i q. omega arith) s.whole e) m
-done-of (LoadLr n) s t after k o f e m = lr-done (stackBytes n) s t after f (lr-loaded s.stack (stackBytes n) s.regs after e) m
+done-of (LoadLr n) s t after k o f e m = lr-done (stack_bytes n) s t after f (lr-loaded s.stack (stack_bytes n) s.regs after e) m
 done-of Nothing s t after k o f e m = absurd (k refl)
 
 -- no memory is written
@@ -147,5 +147,5 @@ pub undoes-of : (u : Undo) (s t : State) → u ≢ Nothing → Sound u → Closi
 undoes-of u s t k o f low = record { does = λ after e. done-of u s t after k o f e (low after e); stack = stack-closing u s t k f }
 
 -- of an instruction that stands for its code
-pub closed : (c : Coded) → Known c → (s : List ℕ) (o : ℕ) (a b : State) → Stands (item s o (closes false c)) → Executes (instructionAt s o) a b → Closing c.code.undo a b
-closed c k s o a b h x = closing c.code.undo (instructionAt s o).action a b k.sound h.does x.does
+pub closed : (c : Coded) → Known c → (s : List ℕ) (o : ℕ) (a b : State) → Stands (item s o (closes false c)) → Executes (instruction_at s o) a b → Closing c.code.undo a b
+closed c k s o a b h x = closing c.code.undo (instruction_at s o).action a b k.sound h.does x.does

@@ -5,19 +5,19 @@ use mathlib.Core.Path.{◌≡◌, refl, sym, ap, subst, ◌∙◌}
 use mathlib.Core.List.{List, [], ◌∷◌, ◌++◌, map-append}
 use Rattle.words.specs.declared.Place.{Place}
 use Rattle.words.specs.Answer.{ok}
-use Rattle.lent.specs.Lent.{Lent, end, wordAt}
+use Rattle.lent.specs.Lent.{Lent, end, word_at}
 use Rattle.unwinding.specs.CodeList.{total}
 use Rattle.unwinding.specs.Shape.{Shape}
 use Rattle.unwinding.specs.View.{View, view}
 use Rattle.unwinding.proofs.All.{All, all_end}
-use Rattle.unwinding.proofs.Mapping.{epilogueOf, view_of}
+use Rattle.unwinding.proofs.Mapping.{epilogue_of, view_of}
 use Rattle.unwinding.proofs.Viewed.{Viewed, viewed, read_of}
-use Rattle.codes.specs.Code.{size, codesAt}
+use Rattle.codes.specs.Code.{size, codes_at}
 use Rattle.codes.specs.declared.Code.{Code}
 use Rattle.pdata.specs.declared.Entry.{Entry}
 use Rattle.record.specs.Record.{shape_at}
 use Rattle.frame.specs.Frame.{Inputs}
-use Rattle.comparing.specs.Items.{Coded, size_of, codedAt, prologueItems, epilogueItems}
+use Rattle.comparing.specs.Items.{Coded, size_of, coded_at, prologue_items, epilogue_items}
 use Rattle.comparing.proofs.Scanning.{total-coded}
 use Rattle.fitting.specs.Exactly.{AllStand}
 use Rattle.fitting.specs.Fitting.{items}
@@ -43,24 +43,24 @@ fine_end [] undone h = h
 fine_end (c ∷ ahead) undone h = fine_end ahead undone h.1
 
 module _
-    (s : List ℕ) (x : Lent) (r : Entry) (sh : Shape) (v : View Coded) (e4 : shape_at x r.word ≡ ok sh) (e6 : view size_of codedAt sh ≡ ok v)
+    (s : List ℕ) (x : Lent) (r : Entry) (sh : Shape) (v : View Coded) (e4 : shape_at x r.word ≡ ok sh) (e6 : view size_of coded_at sh ≡ ok v)
     (stand : AllStand (items s sh.fragment v)) (fine : Fine (plain v.codes.list)) (entry : State) (al : entry.regs.sp % 4 ≡ 0)
   where
     abbrev bare : View Code
     bare = view_of code_of v
 
     known : All Known v.codes.list
-    known = codes-known _ _ _ (viewed size_of codedAt sh v e6).codes
+    known = codes-known _ _ _ (viewed size_of coded_at sh v e6).codes
 
-    viewed-bare : Viewed size codesAt sh bare
-    viewed-bare = viewed size codesAt sh bare (view-plain sh v e6)
+    viewed-bare : Viewed size codes_at sh bare
+    viewed-bare = viewed size codes_at sh bare (view-plain sh v e6)
 
     in-prologue :
         {o : ℕ} {now : State} {undone : List Coded} → InPrologue s v entry o now undone → entry.regs.sp ≤ end now.stack → end now.stack < 2 ^ 32
         → S.InPrologue bare entry o now (plain undone)
     in-prologue {o} {now} {undone} h high m =
-        let all : AllStand (prologueItems s v.codes.list) = of-prologue s sh.fragment v (no-prologue sh v o e6 h.early) stand in
-        let part : AllStand (prologueItems s undone) = of_part s h.ahead undone (subst (λ l. AllStand (prologueItems s l)) h.codes all) in
+        let all : AllStand (prologue_items s v.codes.list) = of-prologue s sh.fragment v (no-prologue sh v o e6 h.early) stand in
+        let part : AllStand (prologue_items s undone) = of_part s h.ahead undone (subst (λ l. AllStand (prologue_items s l)) h.codes all) in
         let k : All Known undone = all_end Known h.ahead undone (subst (All Known) h.codes known) in
         let f : Fine (plain undone) = fine_end h.ahead undone (subst (λ l. Fine (plain l)) h.codes fine) in
         let d = entered s h.entered k part f high m in
@@ -79,14 +79,14 @@ module _
     in_body : {o : ℕ} {now : State} → InBody s sh.fragment v entry o now → entry.regs.sp ≤ end now.stack → end now.stack < 2 ^ 32 → S.InBody bare entry o now
     in_body {o} h high m = record { late = h.late; outside = none-plain o v.epilogues h.outside; past = in-past h.past high m }
 
-    part_of : {o : ℕ} {now : State} {undone : List Coded} (h : InEpilogue s r sh v entry o now undone) → Part s undone h.read.codes.endSize h.read.start h.gone
+    part_of : {o : ℕ} {now : State} {undone : List Coded} (h : InEpilogue s r sh v entry o now undone) → Part s undone h.read.codes.end_size h.read.start h.gone
     part_of {undone = undone} h =
-        let y = read_of size_of codedAt sh (viewed size_of codedAt sh v e6).epilogues h.listed in
-        let en : ℕ = h.read.codes.endSize in
+        let y = read_of size_of coded_at sh (viewed size_of coded_at sh v e6).epilogues h.listed in
+        let en : ℕ = h.read.codes.end_size in
         let all = of-epilogue s h.listed (of-epilogues s sh.fragment v stand) in
         record {
           known = subst (All Known) h.codes (codes-known _ _ _ y.codes);
-          stand = subst (λ l. AllStand (epilogueItems s h.read.start l en)) h.codes all;
+          stand = subst (λ l. AllStand (epilogue_items s h.read.start l en)) h.codes all;
           inside = subst (λ l. total size_of h.gone < total size_of l + en) h.codes (subst (λ n. total size_of h.gone < n) y.long h.inside);
         }
 
@@ -95,21 +95,21 @@ module _
         → S.InEpilogue r sh bare entry o now (plain undone)
     in-epilogue {o} {now} {undone} h high m =
         let part = part_of h in
-        let en : ℕ = h.read.codes.endSize in
+        let en : ℕ = h.read.codes.end_size in
         let k : Lent = h.start.stack in
         let same : now.stack ≡ k = closed-stack s undone en h.closed part in
         let top : entry.regs.sp ≤ end k = subst (λ (y : Lent). entry.regs.sp ≤ end y) same high in
         let small : end k < 2 ^ 32 = subst (λ (y : Lent). end y < 2 ^ 32) same m in
         let p = in-past h.past top small in
-        let q = fit-second x r sh bare e4 viewed-bare h.scope (epilogueOf code_of h.read) (of_plain h.listed) h.fit in
+        let q = fit-second x r sh bare e4 viewed-bare h.scope (epilogue_of code_of h.read) (of_plain h.listed) h.fit in
         let i = q.inv _ _ _ _ (inv-body al p.done p.stays p.keeps) in
         let list : plain h.read.codes.list ≡ plain (h.gone ++ undone) = ap plain h.codes in
         let ran = closed-ran s undone en k (st entry) al top small (RX (plain v.codes.list)) h.closed part
-        (λ y a. q.rX y (subst (λ l. RX l y) (sym list) a)) refl
-        (subst (λ l. Inv k.base (st entry) (flat l) (seen h.start.regs) (wordAt k)) list i) in
+        (λ y a. q.r_x y (subst (λ l. RX l y) (sym list) a)) refl
+        (subst (λ l. Inv k.base (st entry) (flat l) (seen h.start.regs) (word_at k)) list i) in
         record {
           scope = h.scope;
-          read = epilogueOf code_of h.read;
+          read = epilogue_of code_of h.read;
           listed = of_plain h.listed;
           fit = h.fit;
           unconditional = h.unconditional;

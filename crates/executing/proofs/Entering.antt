@@ -12,7 +12,7 @@ use Rattle.unwinding.proofs.All.{All}
 use Rattle.codes.specs.declared.Code.{Code}
 use Rattle.codes.specs.declared.Undo.{Undo}
 use Rattle.codes.specs.declared.Undo.TheVariants.{Up, Pop, SpFrom, Vpop, LoadLr, Nothing}
-use Rattle.comparing.specs.Items.{Coded, size_of, prologueItems}
+use Rattle.comparing.specs.Items.{Coded, size_of, prologue_items}
 use Rattle.fitting.specs.Exactly.{AllStand}
 use Rattle.forward.specs.Saving.{falls}
 use Rattle.forward.specs.State.{State}
@@ -50,7 +50,7 @@ does-one before u a b fine f n low high m =
     elim (nop-or u) [ inl k ↦ does-of before u a b k fine f low high m | inr e ↦ subst (λ v. Does before v a b) (sym e) (subst (λ v. OfNop v (Rests before a b)) e n) ]
 
 module _ (s : List ℕ) where
-  pub opened-stays : {entry now : State} {cs : List Coded} → Opened s entry cs now → All Known cs → AllStand (prologueItems s cs) → Stays entry now
+  pub opened-stays : {entry now : State} {cs : List Coded} → Opened s entry cs now → All Known cs → AllStand (prologue_items s cs) → Stays entry now
   opened-stays none k h = record { base = refl; long = refl }
   opened-stays (next {cs = cs} {a = a} {b = b} c o x n) k h =
       let st = of-first s c cs h in
@@ -59,7 +59,7 @@ module _ (s : List ℕ) where
       record { base = j.base ∙ i.base; long = j.long ∙ i.long }
 
   pub opened-done :
-      {entry now : State} {cs : List Coded} → Opened s entry cs now → All Known cs → AllStand (prologueItems s cs) → Fine (plain cs)
+      {entry now : State} {cs : List Coded} → Opened s entry cs now → All Known cs → AllStand (prologue_items s cs) → Fine (plain cs)
       → entry.stack.base + room (plain cs) ≤ entry.regs.sp
       → entry.regs.sp ≤ end entry.stack
       → end entry.stack < 2 ^ 32
@@ -80,7 +80,7 @@ module _ (s : List ℕ) where
     pub stays : S.InStack now
 
   pub entered :
-      {entry now : State} {cs : List Coded} → Entered s cs entry now → All Known cs → AllStand (prologueItems s cs) → Fine (plain cs)
+      {entry now : State} {cs : List Coded} → Entered s cs entry now → All Known cs → AllStand (prologue_items s cs) → Fine (plain cs)
       → entry.regs.sp ≤ end now.stack
       → end now.stack < 2 ^ 32
       → Ran entry now cs
@@ -91,14 +91,14 @@ module _ (s : List ℕ) where
       record { done = d; stays = omega (arith, p.sp, p.base, e.low) }
 
   pub past :
-      {fragment : Bool} {cs : List Coded} {entry now : State} → Past s fragment cs entry now → (fragment ≡ false → AllStand (prologueItems s cs)) → All Known cs
+      {fragment : Bool} {cs : List Coded} {entry now : State} → Past s fragment cs entry now → (fragment ≡ false → AllStand (prologue_items s cs)) → All Known cs
       → Fine (plain cs)
       → entry.regs.sp ≤ end now.stack
       → end now.stack < 2 ^ 32
       → S.Past (plain cs) entry now
   past {fragment} {cs} {entry} {now} h st k fine high m = go fragment st h.begins
     where
-      go : (t : Bool) → (t ≡ false → AllStand (prologueItems s cs)) → Begins s t cs entry h.left → S.Past (plain cs) entry now
+      go : (t : Bool) → (t ≡ false → AllStand (prologue_items s cs)) → Begins s t cs entry h.left → S.Past (plain cs) entry now
       go true st b = record { left = h.left; done = b.0; stays = b.1; keeps = h.keeps }
       go false st b =
           let z = h.keeps in

@@ -24,17 +24,17 @@ use Rattle.unwinding.specs.View.{EpilogueOf, View, view}
 use Rattle.unwinding.specs.Listed.{Of, here, InNone}
 use Rattle.unwinding.specs.declared.Scope.{Scope}
 use Rattle.codes.specs.Condition.{always}
-use Rattle.machine.specs.Registers.{setReg, setSp, setPc}
+use Rattle.machine.specs.Registers.{set_reg, set_sp, set_pc}
 use Rattle.machine.specs.declared.Regs.{Regs}
 use Rattle.pdata.specs.Pdata.{find}
 use Rattle.pdata.specs.declared.Entry.{Entry}
 use Rattle.record.specs.Record.{shape_at}
 use Rattle.frame.specs.Frame.{Inputs}
-use Rattle.thumb.specs.Instruction.{instructionAt}
+use Rattle.thumb.specs.Instruction.{instruction_at}
 use Rattle.thumb.specs.declared.Action.{Action}
 use Rattle.thumb.specs.declared.Action.TheVariants.{Push, SubSp, AddSp, Mov}
 use Rattle.thumb.specs.declared.Instruction.{Instruction}
-use Rattle.comparing.specs.Items.{Coded, size_of, codedAt}
+use Rattle.comparing.specs.Items.{Coded, size_of, coded_at}
 use Rattle.fitting.specs.Fitting.{fitted}
 use Rattle.fitting.specs.declared.Fitted.{Fitted}
 use Rattle.fitting.specs.declared.Fitted.TheVariants.{Fits}
@@ -49,10 +49,10 @@ use Rattle.forward.specs.Met.{Fine, room, Roomy}
 use Rattle.forward.proofs.Ops.{upd, upd-cases}
 use Rattle.forward.proofs.Writing.{whole_reg, value-reg}
 use Rattle.forward.proofs.Executing.{standing}
-use Rattle.forward.proofs.Storing.{storeAll, store-all-outside, store-all-stored}
+use Rattle.forward.proofs.Storing.{store_all, store-all-outside, store-all-stored}
 use Rattle.forward.proofs.Reaching.{idle, less-room}
 use Rattle.forward.proofs.Framed.{fit-like, stack-end}
-use Rattle.forward.proofs.Examples.{Tables, inputs, own, shape, up2, up4, pop45lr, pop4to9lr, spR7, rx7, entry, entered}
+use Rattle.forward.proofs.Examples.{Tables, inputs, own, shape, up2, up4, pop45lr, pop4to9lr, sp_r7, rx7, entry, entered}
 use Rattle.forward.proofs.Examples as Forward
 use Rattle.executing.specs.Manual.{all, Has, Stores, Loads, Moves, Passes, Executes}
 use Rattle.executing.specs.Executed as E
@@ -86,10 +86,10 @@ lower n xs m s few low high small near =
     let o = store-all-outside xs s.stack a s.regs b h in
     let w : Whole s.regs = s.whole in
     record {
-      now = record { regs = setPc (setSp s.regs a) (s.regs.pc + m); stack = storeAll s.stack a xs s.regs; whole = record { r = w.r; d = w.d } };
+      now = record { regs = set_pc (set_sp s.regs a) (s.regs.pc + m); stack = store_all s.stack a xs s.regs; whole = record { r = w.r; d = w.d } };
       stores = record {
         sp = omega arith;
-        stored = has_of (storeAll s.stack a xs s.regs) a xs s.regs (store-all-stored xs s.stack a s.regs b h);
+        stored = has_of (store_all s.stack a xs s.regs) a xs s.regs (store-all-stored xs s.stack a s.regs b h);
         rest = record { r = refl; lr = refl; d = refl };
         stack = o;
       };
@@ -112,7 +112,7 @@ raise : (n m : ℕ) (s : State) → s.regs.sp + n < 2 ^ 32 → s.regs.pc + m < 2
 raise n m s high near =
     let w : Whole s.regs = s.whole in
     record {
-      now = record { regs = setPc (setSp s.regs (s.regs.sp + n)) (s.regs.pc + m); stack = s.stack; whole = record { r = w.r; d = w.d } };
+      now = record { regs = set_pc (set_sp s.regs (s.regs.sp + n)) (s.regs.pc + m); stack = s.stack; whole = record { r = w.r; d = w.d } };
       loads = record { sp = omega arith; loaded = tt; rest = λ x q. refl; stack = refl };
       passes = omega arith;
       pc = refl;
@@ -141,8 +141,8 @@ copy x m s l n near =
   where
     now : State
     now =
-        let w : Whole (setReg s.regs x s.regs.sp) = whole_reg x s.regs.sp s.whole in
-        record { regs = setPc (setReg s.regs x s.regs.sp) (s.regs.pc + m); stack = s.stack; whole = record { r = w.r; d = w.d } }
+        let w : Whole (set_reg s.regs x s.regs.sp) = whole_reg x s.regs.sp s.whole in
+        record { regs = set_pc (set_reg s.regs x s.regs.sp) (s.regs.pc + m); stack = s.stack; whole = record { r = w.r; d = w.d } }
 
     same : value now.regs ≡ upd (value s.regs) x s.regs.sp
     same = value-reg s.regs x s.regs.sp s.whole l n
@@ -161,14 +161,14 @@ copy x m s l n near =
 
 -- ---- tables with one record, beside the bytes of its function
 abbrev pub views : Tables → View Coded
-views k = or_else (view size_of codedAt (shape k)) (record { codes = record { list = []; endSize = 0 }; prologue = 0; epilogues = [] })
+views k = or_else (view size_of coded_at (shape k)) (record { codes = record { list = []; end_size = 0 }; prologue = 0; epilogues = [] })
 
 -- the record is found at an offset and fits, and this is what it says
 abbrev sees : Tables → List ℕ → ℕ → Res (Option Entry) × Fitted × Res Shape × Res (View Coded) × ℕ
 sees k s o =
     let t : Inputs = inputs k in
     let pc : ℕ = 0x00401000 + o in
-    (find t.image t.pdata pc, fitted t.xdata k.word s, shape_at t.xdata k.word, view size_of codedAt (shape k), even pc - t.image - (own k).start)
+    (find t.image t.pdata pc, fitted t.xdata k.word s, shape_at t.xdata k.word, view size_of coded_at (shape k), even pc - t.image - (own k).start)
 
 abbrev Sees : Tables → List ℕ → ℕ → Type 0
 Sees k s o = sees k s o ≡ (ok (some (own k)), Fits, ok (shape k), ok (views k), o)
@@ -293,15 +293,15 @@ pop = record { code = pop45lr; first = 0xD5 }
 abbrev one : Action → Instruction
 one a = record { action = a; size = halfwords 1 }
 
-at-0 : instructionAt code 0 ≡ one (Push (2 ^ 4 + 2 ^ 5 + 2 ^ 14))
+at-0 : instruction_at code 0 ≡ one (Push (2 ^ 4 + 2 ^ 5 + 2 ^ 14))
 unfolding opened
 at-0 = refl
 
-at-2 : instructionAt code 2 ≡ one (SubSp 8)
+at-2 : instruction_at code 2 ≡ one (SubSp 8)
 unfolding opened
 at-2 = refl
 
-at-1C : instructionAt code 0x1C ≡ one (AddSp 8)
+at-1C : instruction_at code 0x1C ≡ one (AddSp 8)
 unfolding opened
 at-1C = refl
 
@@ -373,8 +373,8 @@ module _ (e : State) (h : Enters 20 e) where
       (past Forward.plain code e 20 h sub.now 0x0040101C refl (omega arith) subbed sp-sub) added same_add (omega (arith, add.pc))
 
 -- ---- a full record with C7 DD 04 FD: push {r0-r3}; push.w {r4-r9,lr}; mov r7,sp; nops; mov sp,r7; pop.w {r4-r9,lr}; add sp,#16; bx lr
-abbrev pub framedCode : List ℕ
-framedCode = bytes_of (0xE92DB40F ∷ 0x466F43F0 ∷ replicate 78 0xBF00BF00 ++ (0xE8BD46BD ∷ 0xB00443F0 ∷ 0x4770 ∷ []))
+abbrev pub framed_code : List ℕ
+framed_code = bytes_of (0xE92DB40F ∷ 0x466F43F0 ∷ replicate 78 0xBF00BF00 ++ (0xE8BD46BD ∷ 0xB00443F0 ∷ 0x4770 ∷ []))
 
 abbrev pub home : Coded
 home = record { code = up4; first = 0x04 }
@@ -382,22 +382,22 @@ home = record { code = up4; first = 0x04 }
 abbrev pub wide : Coded
 wide = record { code = pop4to9lr; first = 0xDD }
 
-abbrev pub spFrom : Coded
-spFrom = record { code = spR7; first = 0xC7 }
+abbrev pub sp_from : Coded
+sp_from = record { code = sp_r7; first = 0xC7 }
 
-framed-at-0 : instructionAt framedCode 0 ≡ one (Push (2 ^ 4 - 1))
+framed-at-0 : instruction_at framed_code 0 ≡ one (Push (2 ^ 4 - 1))
 unfolding opened
 framed-at-0 = refl
 
-framed-at-2 : instructionAt framedCode 2 ≡ record { action = Push (2 ^ 10 - 2 ^ 4 + 2 ^ 14); size = halfwords 2 }
+framed-at-2 : instruction_at framed_code 2 ≡ record { action = Push (2 ^ 10 - 2 ^ 4 + 2 ^ 14); size = halfwords 2 }
 unfolding opened
 framed-at-2 = refl
 
-framed-at-6 : instructionAt framedCode 6 ≡ one (Mov 7 13)
+framed-at-6 : instruction_at framed_code 6 ≡ one (Mov 7 13)
 unfolding opened
 framed-at-6 = refl
 
-framed-sees-8 : Sees Forward.framed framedCode 8
+framed-sees-8 : Sees Forward.framed framed_code 8
 unfolding opened
 framed-sees-8 = refl
 
@@ -415,17 +415,17 @@ module _ (e : State) (h : Enters 44 e) where
   copied : Copied 7 2 saved.now
   copied = copy 7 2 saved.now (omega arith) (λ q. omega arith) (omega (arith, h.pc, homed.pc, saved.pc))
 
-  opened-2 : Opened framedCode e (home ∷ []) homed.now
+  opened-2 : Opened framed_code e (home ∷ []) homed.now
   unfolding opened
   opened-2 = E.next home E.none (subst (λ i. Executes i e homed.now) (sym framed-at-0) (record { does = homed.stores; next = homed.passes })) tt
 
-  opened-6 : Opened framedCode e (wide ∷ home ∷ []) saved.now
+  opened-6 : Opened framed_code e (wide ∷ home ∷ []) saved.now
   unfolding opened
   opened-6 = E.next wide opened-2 (subst (λ i. Executes i homed.now saved.now) (sym framed-at-2) (record { does = saved.stores; next = saved.passes })) tt
 
-  opened-8 : Opened framedCode e (spFrom ∷ wide ∷ home ∷ []) copied.now
+  opened-8 : Opened framed_code e (sp_from ∷ wide ∷ home ∷ []) copied.now
   unfolding opened
-  opened-8 = E.next spFrom opened-6 (subst (λ i. Executes i saved.now copied.now) (sym framed-at-6) (record { does = copied.moves; next = copied.passes })) tt
+  opened-8 = E.next sp_from opened-6 (subst (λ i. Executes i saved.now copied.now) (sym framed-at-6) (record { does = copied.moves; next = copied.passes })) tt
 
   same-copied : Stays e copied.now
   same-copied = record {
@@ -439,6 +439,6 @@ module _ (e : State) (h : Enters 44 e) where
     omega (arith, h.roomy.low, copied.sp, saved.sp, homed.sp, same-copied.base),
   )
 
-  pub framed-8 : Reaches framedCode (inputs Forward.framed) e 8 Body (spFrom ∷ wide ∷ home ∷ [])
+  pub framed-8 : Reaches framed_code (inputs Forward.framed) e 8 Body (sp_from ∷ wide ∷ home ∷ [])
   unfolding opened
-  framed-8 = in_body Forward.framed framedCode e 44 h 8 copied.now framed-sees-8 (inl (omega arith), tt) (rx7, (tt, (tt, tt))) refl (omega arith) opened-8 same-copied sp-copied
+  framed-8 = in_body Forward.framed framed_code e 44 h 8 copied.now framed-sees-8 (inl (omega arith), tt) (rx7, (tt, (tt, tt))) refl (omega arith) opened-8 same-copied sp-copied

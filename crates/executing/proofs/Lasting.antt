@@ -9,22 +9,22 @@ use lib.Dec.{eqb}
 use native.Mathlib.Omega.{arith}
 use borrow.Author.Tests.{eqb-true}
 use Rattle.words.specs.Bits.{bit, bits, even}
-use Rattle.words.specs.Units.{stackBytes}
+use Rattle.words.specs.Units.{stack_bytes}
 use Rattle.words.specs.declared.StackWords.{StackWords}
 use Rattle.words.specs.Answer.{ok, if◌then◌else◌}
 use Rattle.words.proofs.Answers.{bind_ok}
-use Rattle.lent.specs.Lent.{Lent, holds, wordAt}
+use Rattle.lent.specs.Lent.{Lent, holds, word_at}
 use Rattle.codes.specs.declared.Undo.{Undo}
 use Rattle.codes.specs.declared.Undo.TheVariants.{Up, Pop, SpFrom, Vpop, LoadLr, Nothing}
 use Rattle.codes.proofs.Registers.{RegisterList, list-small, list-no-sp}
 use Rattle.codes.proofs.Sound.{Sound}
-use Rattle.machine.specs.Registers.{setReg, setSp}
-use Rattle.machine.specs.Step.{popReg, pop, effect}
+use Rattle.machine.specs.Registers.{set_reg, set_sp}
+use Rattle.machine.specs.Step.{pop_reg, pop, effect}
 use Rattle.machine.specs.declared.Regs.{Regs}
 use Rattle.machine.proofs.Loading.{holding}
 use Rattle.thumb.specs.declared.Action.{Action}
 use Rattle.thumb.specs.declared.Action.TheVariants as T
-use Rattle.expected.specs.Expected.{withPc, loading, actsAfter}
+use Rattle.expected.specs.Expected.{with_pc, loading, acts_after}
 use Rattle.fitting.specs.Exactly.{As}
 use Rattle.forward.specs.Registers.{value}
 use Rattle.forward.specs.Saving.{listed, bytes}
@@ -65,10 +65,10 @@ lr-to-pc n xs s t i after f l h m =
           ∙ sym (other x q)
           ∙ ap (λ (g : Regs). value g x) h.is,
       f.pc (subst (λ a. holds s.stack a 4 ≡ true) (sym at) (holding s.stack i.sp 4 w.low w.high))
-          ∙ ap even (ap (wordAt s.stack) at ∙ sym w.is ∙ sym lr),
+          ∙ ap even (ap (word_at s.stack) at ∙ sym w.is ∙ sym lr),
     )
   where
-    other : (x : ℕ) → x ≢ 14 → value (setSp (setReg i 14 h.word) (i.sp + n)) x ≡ value i x
+    other : (x : ℕ) → x ≢ 14 → value (set_sp (set_reg i 14 h.word) (i.sp + n)) x ≡ value i x
     other x q =
         ap (λ v. v x) (value-reg i 14 h.word l.whole (omega arith) (λ z. omega arith))
         ∙ upd-cases (λ v. v ≡ value i x) (value i) 14 h.word x (λ e. absurd (q e)) (λ e. refl)
@@ -121,10 +121,10 @@ module _ (l : ℕ) (h : RegisterList l) (b : bit 14 l ≡ true) where
     lr : LrLoaded k 4 mid after
 
   parts : (k : Lent) (g after : Regs) → Whole g → pop k l 15 g ≡ ok after → Parts k g after
-  unfolding pop popReg
+  unfolding pop pop_reg
   parts k g after w e =
       let a = bind_ok (pop k l 14 g) _ after e in
-      record { mid = a.0; loaded = loaded-list k l 14 g a.0 (list-no-sp l h) (omega arith) w a.1; lr = lr-loaded k 4 a.0 after (subst (λ t. (if t then popReg k 14 a.0 else ok a.0) ≡ ok after) b a.2) }
+      record { mid = a.0; loaded = loaded-list k l 14 g a.0 (list-no-sp l h) (omega arith) w a.1; lr = lr-loaded k 4 a.0 after (subst (λ t. (if t then pop_reg k 14 a.0 else ok a.0) ≡ ok after) b a.2) }
 
   returns-pop : (n : ℕ) (s t : State) → Acts (T.Pop swapped) s t → Next (T.Pop swapped) n s t → Low (Pop l) s → Returns (Pop l) s t
   returns-pop n s t f g low = record {
@@ -151,7 +151,7 @@ loaded-pc m n s t = go (eqb n 4) refl
         put (subst (λ i. Loads i [] s t) (sym (eqb-true n 4 e)) f) (subst (λ i. LoadsPc i s t) (let z : s.regs.sp + 0 ≡ s.regs.sp = omega arith in z) g)
     go false e f g = put f g
 
-returns-lr : (n : StackWords) (s t : State) → ToPc (stackBytes n) [] s t → Low (LoadLr n) s → Returns (LoadLr n) s t
+returns-lr : (n : StackWords) (s t : State) → ToPc (stack_bytes n) [] s t → Low (LoadLr n) s → Returns (LoadLr n) s t
 returns-lr n s t f low = record {
   does = λ after e. let r = all after e in (r.0, r.1);
   pc = λ q after e. (all after e).2;
@@ -162,10 +162,10 @@ returns-lr n s t f low = record {
         (after : Regs) → effect s.stack (LoadLr n) s.regs ≡ ok after
         → (t.regs.sp ≡ after.sp) × ((x : ℕ) → x ≢ 14 → value t.regs x ≡ value after x) × (t.regs.pc ≡ even after.lr)
     all after e =
-        lr-to-pc (stackBytes n) [] s t s.regs after f (loaded-none s.stack s.regs s.whole) (lr-loaded s.stack (stackBytes n) s.regs after e) (low after e)
+        lr-to-pc (stack_bytes n) [] s t s.regs after f (loaded-none s.stack s.regs s.whole) (lr-loaded s.stack (stack_bytes n) s.regs after e) (low after e)
 
 -- ---- by the code
-returns-list : (l m : ℕ) (s t : State) → RegisterList l → Acts (T.Pop (withPc l)) s t → Next (T.Pop (withPc l)) m s t → Low (Pop l) s → Returns (Pop l) s t
+returns-list : (l m : ℕ) (s t : State) → RegisterList l → Acts (T.Pop (with_pc l)) s t → Next (T.Pop (with_pc l)) m s t → Low (Pop l) s → Returns (Pop l) s t
 returns-list l m s t o f g low = go (bit 14 l) refl f g
   where
     go : (q : Bool) → bit 14 l ≡ q → Acts (T.Pop (if q then l + 2 ^ 14 else l)) s t → Next (T.Pop (if q then l + 2 ^ 14 else l)) m s t → Returns (Pop l) s t
@@ -175,11 +175,11 @@ returns-list l m s t o f g low = go (bit 14 l) refl f g
         (undoes-of (Pop l) s t (λ q. let z : ◌≡◌ {A = ℕ} 0 1 = cc in omega arith) o (popped l s t o f) low)
 
 pub returning :
-    (u : Undo) (a : Action) (m : ℕ) (s t : State) → u ≢ Nothing → Sound u → As (actsAfter true u) a → Acts a s t → Next a m s t → Low u s → Returns u s t
+    (u : Undo) (a : Action) (m : ℕ) (s t : State) → u ≢ Nothing → Sound u → As (acts_after true u) a → Acts a s t → Next a m s t → Low u s → Returns u s t
 returning (Up n) a m s t k o e f g low = returns_as (Up n) s t (λ q. q) (undoes-of (Up n) s t k o (subst (λ x. Acts x s t) e f) low)
 returning (Pop l) a m s t k o e f g low = returns-list l m s t o (subst (λ x. Acts x s t) e f) (subst (λ x. Next x m s t) e g) low
 returning (SpFrom x) a m s t k o e f g low = returns_as (SpFrom x) s t (λ q. q) (undoes-of (SpFrom x) s t k o (subst (λ y. Acts y s t) e f) low)
 returning (Vpop i j) a m s t k o e f g low = returns_as (Vpop i j) s t (λ q. q) (undoes-of (Vpop i j) s t k o (subst (λ x. Acts x s t) e f) low)
 returning (LoadLr n) a m s t k o e f g low =
-    returns-lr n s t (loaded-pc m (stackBytes n) s t (subst (λ x. Acts x s t) e f) (subst (λ x. Next x m s t) e g)) low
+    returns-lr n s t (loaded-pc m (stack_bytes n) s t (subst (λ x. Acts x s t) e f) (subst (λ x. Next x m s t) e g)) low
 returning Nothing a m s t k o e f g low = absurd (k refl)

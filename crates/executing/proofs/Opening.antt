@@ -9,7 +9,7 @@ use lib.Dec.{eqb}
 use lib.ListN.{length}
 use native.Mathlib.Omega.{arith}
 use borrow.Author.Tests.{eqb-true}
-use Rattle.words.specs.Units.{stackBytes}
+use Rattle.words.specs.Units.{stack_bytes}
 use Rattle.words.specs.declared.StackWords.{StackWords}
 use Rattle.words.specs.Answer.{if◌then◌else◌}
 use Rattle.lent.specs.Lent.{Lent, end}
@@ -18,10 +18,10 @@ use Rattle.codes.specs.declared.Undo.{Undo}
 use Rattle.codes.specs.declared.Undo.TheVariants.{Up, Pop, SpFrom, Vpop, LoadLr, Nothing}
 use Rattle.machine.proofs.Loading.{holding}
 use Rattle.machine.specs.declared.Regs.{Regs}
-use Rattle.thumb.specs.Instruction.{instructionAt}
+use Rattle.thumb.specs.Instruction.{instruction_at}
 use Rattle.thumb.specs.declared.Action.{Action}
 use Rattle.thumb.specs.declared.Action.TheVariants.{Push, SubSp, Store}
-use Rattle.expected.specs.Expected.{home, storing, lowering, actsBefore}
+use Rattle.expected.specs.Expected.{home, storing, lowering, acts_before}
 use Rattle.comparing.specs.Items.{Coded, opens, item}
 use Rattle.expected.specs.declared.Acts.TheVariants.{This, OrHome}
 use Rattle.fitting.specs.Exactly.{As, Stands}
@@ -43,25 +43,25 @@ pub record Lowers (n : ℕ) (s t : State) : Type 0 where
 
 -- what was executed, by the code
 abbrev pub Opening : Undo → State → State → Type 0
-Opening (Up n) s t = Lowers (stackBytes n) s t
+Opening (Up n) s t = Lowers (stack_bytes n) s t
 Opening (Pop l) s t = Stores (bytes (saves (Pop l))) (saves (Pop l)) s t
 Opening (SpFrom x) s t = Moves x 13 s t
 Opening (Vpop a b) s t = Stores (bytes (saves (Vpop a b))) (saves (Vpop a b)) s t
-Opening (LoadLr n) s t = Stores (stackBytes n) (14 ∷ []) s t
+Opening (LoadLr n) s t = Stores (stack_bytes n) (14 ∷ []) s t
 Opening Nothing s t = Unit {0}
 
-lowered : (b : ℕ) (n : StackWords) (a : Action) (s t : State) → (b ≡ 4 → n.0 ≡ 4) → As (lowering b (SubSp (stackBytes n))) a → Acts a s t → Lowers (stackBytes n) s t
+lowered : (b : ℕ) (n : StackWords) (a : Action) (s t : State) → (b ≡ 4 → n.0 ≡ 4) → As (lowering b (SubSp (stack_bytes n))) a → Acts a s t → Lowers (stack_bytes n) s t
 lowered b n a s t four h f = go (eqb b 4) refl h
   where
-    plain : a ≡ SubSp (stackBytes n) → Lowers (stackBytes n) s t
+    plain : a ≡ SubSp (stack_bytes n) → Lowers (stack_bytes n) s t
     plain e = record { list = []; few = omega arith; stores = subst (λ x. Acts x s t) e f }
 
-    homed : n.0 ≡ 4 → a ≡ home → Lowers (stackBytes n) s t
+    homed : n.0 ≡ 4 → a ≡ home → Lowers (stack_bytes n) s t
     homed z e =
-        let w : 16 ≡ stackBytes n = omega arith in
+        let w : 16 ≡ stack_bytes n = omega arith in
         record { list = 0 ∷ 1 ∷ 2 ∷ 3 ∷ []; few = omega arith; stores = subst (λ m. Stores m (0 ∷ 1 ∷ 2 ∷ 3 ∷ []) s t) w (subst (λ x. Acts x s t) e f) }
 
-    go : (q : Bool) → eqb b 4 ≡ q → As (if q then OrHome (SubSp (stackBytes n)) else This (SubSp (stackBytes n))) a → Lowers (stackBytes n) s t
+    go : (q : Bool) → eqb b 4 ≡ q → As (if q then OrHome (SubSp (stack_bytes n)) else This (SubSp (stack_bytes n))) a → Lowers (stack_bytes n) s t
     go true e (inl h) = plain h
     go true e (inr h) = homed (four (eqb-true b 4 e)) h
     go false e h = plain h
@@ -73,12 +73,12 @@ stored-lr n a s t h f = go (eqb n 4) refl (subst (λ x. Acts x s t) h f)
     go true e g = subst (λ m. Stores m (14 ∷ []) s t) (sym (eqb-true n 4 e)) g
     go false e g = g
 
-pub opening : (u : Undo) (first : ℕ) (a : Action) (s t : State) → ((n : StackWords) → first ≡ 4 → u ≡ Up n → n.0 ≡ 4) → As (actsBefore first u) a → Acts a s t → Opening u s t
+pub opening : (u : Undo) (first : ℕ) (a : Action) (s t : State) → ((n : StackWords) → first ≡ 4 → u ≡ Up n → n.0 ≡ 4) → As (acts_before first u) a → Acts a s t → Opening u s t
 opening (Up n) b a s t h e f = lowered b n a s t (λ q. h n q refl) e f
 opening (Pop l) b a s t h e f = subst (λ x. Acts x s t) e f
 opening (SpFrom x) b a s t h e f = subst (λ y. Acts y s t) e f
 opening (Vpop i j) b a s t h e f = subst (λ x. Acts x s t) e f
-opening (LoadLr n) b a s t h e f = stored-lr (stackBytes n) a s t e f
+opening (LoadLr n) b a s t h e f = stored-lr (stack_bytes n) a s t e f
 opening Nothing b a s t h e f = tt
 
 -- ---- what it comes to where there is room
@@ -111,7 +111,7 @@ pub does-of :
     → end s.stack < 2 ^ 32
     → Does before u s t
 does-of before (Up n) s t k fine f low high m =
-    let z = falls_of (stackBytes n) f.list s t f.stores low (omega arith) in
+    let z = falls_of (stack_bytes n) f.list s t f.stores low (omega arith) in
     record { sp = z; rest = f.stores.rest; stack = outside-more f.stores.stack (omega arith) (omega (arith, z, f.few)) }
 does-of before (Pop l) s t k fine f low high m = pushed (saves (Pop l)) s t f low high m
 does-of before (SpFrom x) s t k fine f low high m =
@@ -119,7 +119,7 @@ does-of before (SpFrom x) s t k fine f low high m =
     let x15 : x ≢ 15 = λ q. omega (arith, fine.named) in
     record {
       sp = f.rest 13 (λ q. x13 (sym q)) (λ q. omega arith);
-      rX = sym (all-value t.regs x x13 x15) ∙ f.taken x15;
+      r_x = sym (all-value t.regs x x13 x15) ∙ f.taken x15;
       rest = moved-rest f;
       stack = f.stack;
       once = fine.once;
@@ -127,7 +127,7 @@ does-of before (SpFrom x) s t k fine f low high m =
     }
 does-of before (Vpop a b) s t k fine f low high m = pushed (saves (Vpop a b)) s t f low high m
 does-of before (LoadLr n) s t k fine f low high m =
-    let z = falls_of (stackBytes n) (14 ∷ []) s t f low (omega arith) in
+    let z = falls_of (stack_bytes n) (14 ∷ []) s t f low (omega arith) in
     let o = f.stack in
     record {
       falls = record { sp = z; rest = f.rest; stack = outside-more o (omega arith) (omega arith) };
@@ -156,5 +156,5 @@ stays-opening (LoadLr n) s t k f = stays-stores f
 stays-opening Nothing s t k f = absurd (k refl)
 
 -- of an instruction that stands for its code
-pub opened : (c : Coded) → Known c → (s : List ℕ) (o : ℕ) (a b : State) → Stands (item s o (opens c)) → Executes (instructionAt s o) a b → Opening c.code.undo a b
-opened c k s o a b h x = opening c.code.undo c.first (instructionAt s o).action a b k.home h.does x.does
+pub opened : (c : Coded) → Known c → (s : List ℕ) (o : ℕ) (a b : State) → Stands (item s o (opens c)) → Executes (instruction_at s o) a b → Opening c.code.undo a b
+opened c k s o a b h x = opening c.code.undo c.first (instruction_at s o).action a b k.home h.does x.does

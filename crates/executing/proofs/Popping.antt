@@ -12,9 +12,9 @@ use borrow.Author.Tests.{lt-ltb, le-ltb}
 use Rattle.words.specs.Bits.{bit}
 use Rattle.words.specs.Answer.{ok, if◌then◌else◌}
 use Rattle.words.proofs.Answers.{bind_ok, ok_same}
-use Rattle.lent.specs.Lent.{Lent, end, holds, wordAt}
-use Rattle.machine.specs.Registers.{setReg, setD, setSp}
-use Rattle.machine.specs.Step.{load, popReg, popD, pop, vpop}
+use Rattle.lent.specs.Lent.{Lent, end, holds, word_at}
+use Rattle.machine.specs.Registers.{set_reg, set_d, set_sp}
+use Rattle.machine.specs.Step.{load, pop_reg, pop_d, pop, vpop}
 use Rattle.machine.specs.declared.Regs.{Regs}
 use Rattle.machine.proofs.Loading.{holding, load-held, load_inside}
 use Rattle.forward.specs.Registers.{value, width, held}
@@ -75,29 +75,29 @@ module _ (k : Lent) where
   pub record Word (a w : ℕ) : Type 0 where
     pub low : k.base ≤ a
     pub high : a + 4 ≤ end k
-    pub is : w ≡ wordAt k a
+    pub is : w ≡ word_at k a
 
   pub loaded_word : (a w : ℕ) → load k a ≡ ok w → Word a w
   loaded_word a w e =
       let i = load_inside k a w e in
-      record { low = i.0; high = i.1; is = ok_same w (wordAt k a) (sym e ∙ load-held k a (holding k a 4 i.0 i.1)) }
+      record { low = i.0; high = i.1; is = ok_same w (word_at k a) (sym e ∙ load-held k a (holding k a 4 i.0 i.1)) }
 
-  pub loaded-reg : (x : ℕ) (g h : Regs) → x < 15 → x ≢ 13 → Whole g → popReg k x g ≡ ok h → Loaded g (x ∷ []) h
-  unfolding popReg
+  pub loaded-reg : (x : ℕ) (g h : Regs) → x < 15 → x ≢ 13 → Whole g → pop_reg k x g ≡ ok h → Loaded g (x ∷ []) h
+  unfolding pop_reg
   loaded-reg x g h l n w e =
       let a = bind_ok (load k g.sp) _ h e in
       let m = loaded_word g.sp a.0 a.1 in
       let wide : ltb x 16 ≡ true = lt-ltb x 16 (omega arith) in
-      let z : setSp (setReg g x a.0) (g.sp + 4) ≡ h = ok_same _ _ a.2 in
+      let z : set_sp (set_reg g x a.0) (g.sp + 4) ≡ h = ok_same _ _ a.2 in
       let word : held k g.sp x ≡ a.0 = rw wide (sym m.is) in
       subst (Loaded g (x ∷ [])) z
-      (loaded-one g (setSp (setReg g x a.0) (g.sp + 4)) x (record { r = (whole_reg x a.0 w).r; d = w.d })
+      (loaded-one g (set_sp (set_reg g x a.0) (g.sp + 4)) x (record { r = (whole_reg x a.0 w).r; d = w.d })
       (rw wide (holding k g.sp 4 m.low m.high))
       (rw wide refl)
       (value-reg g x a.0 w l n ∙ ap (upd (value g) x) (sym word)))
 
-  loaded-d : (x : ℕ) (g h : Regs) → x < 32 → Whole g → popD k x g ≡ ok h → Loaded g ((16 + x) ∷ []) h
-  unfolding popD
+  loaded-d : (x : ℕ) (g h : Regs) → x < 32 → Whole g → pop_d k x g ≡ ok h → Loaded g ((16 + x) ∷ []) h
+  unfolding pop_d
   loaded-d x g h l w e =
       let a = bind_ok (load k g.sp) _ h e in
       let b = bind_ok (load k (g.sp + 4)) _ h a.2 in
@@ -105,15 +105,15 @@ module _ (k : Lent) where
       let n = loaded_word (g.sp + 4) b.0 b.1 in
       let wide : ltb (16 + x) 16 ≡ false = le-ltb (16 + x) 16 (omega arith) in
       let d : ℕ = a.0 + 2 ^ 32 * b.0 in
-      let z : setSp (setD g x d) (g.sp + 8) ≡ h = ok_same _ _ b.2 in
+      let z : set_sp (set_d g x d) (g.sp + 8) ≡ h = ok_same _ _ b.2 in
       let word : held k g.sp (16 + x) ≡ d = rw (wide, ← m.is, ← n.is) refl in
       subst (Loaded g ((16 + x) ∷ [])) z
-      (loaded-one g (setSp (setD g x d) (g.sp + 8)) (16 + x) (record { r = w.r; d = (whole-d x d w).d })
+      (loaded-one g (set_sp (set_d g x d) (g.sp + 8)) (16 + x) (record { r = w.r; d = (whole-d x d w).d })
       (rw wide (holding k g.sp 8 m.low (omega (arith, n.high))))
       (rw wide refl)
       (value-d g x d w l ∙ ap (upd (value g) (16 + x)) (sym word)))
 
-  loaded-if : (t : Bool) (n : ℕ) (g h : Regs) → n < 15 → (t ≡ true → n ≢ 13) → Whole g → (if t then popReg k n g else ok g) ≡ ok h → Loaded g (if t then n ∷ [] else []) h
+  loaded-if : (t : Bool) (n : ℕ) (g h : Regs) → n < 15 → (t ≡ true → n ≢ 13) → Whole g → (if t then pop_reg k n g else ok g) ≡ ok h → Loaded g (if t then n ∷ [] else []) h
   loaded-if true n g h l q w e = loaded-reg n g h l (q refl) w e
   loaded-if false n g h l q w e = subst (Loaded g []) (ok_same g h e) (loaded-none g w)
 

@@ -11,8 +11,8 @@ use Rattle.machine.specs.Step.{effect}
 use Rattle.machine.specs.declared.Regs.{Regs}
 use Rattle.frame.specs.Frame.{Inputs}
 use Rattle.frame.specs.declared.Unwound.{Unwound}
-use Rattle.thumb.specs.Instruction.{instructionAt}
-use Rattle.comparing.specs.Items.{Coded, opens, closes, leaves, item, scanCoded}
+use Rattle.thumb.specs.Instruction.{instruction_at}
+use Rattle.comparing.specs.Items.{Coded, opens, closes, leaves, item, scan_coded}
 use Rattle.fitting.specs.Exactly.{Stands}
 use Rattle.forward.specs.Registers.{value}
 use Rattle.forward.specs.Saving.{falls}
@@ -32,14 +32,14 @@ pub data In {A : Type 0} (x : A) : List A → Type 0 where
 pub record IsCode (c : Coded) : Type 0 where
   pub bytes : List ℕ
   pub index : CodeBytes
-  pub among : In c (scanCoded bytes index).list
+  pub among : In c (scan_coded bytes index).list
   pub acts : c.code.undo ≢ Nothing
 
 -- executed where SP and what it falls over are lent, the instruction of a prologue does what its code undoes
 abbrev pub Opens : Type 0
 Opens =
     (c : Coded) → IsCode c → (before : List Code) → FineOne before c.code.undo
-    → (s : List ℕ) (o : ℕ) (a b : State) → Stands (item s o (opens c)) → Executes (instructionAt s o) a b
+    → (s : List ℕ) (o : ℕ) (a b : State) → Stands (item s o (opens c)) → Executes (instruction_at s o) a b
     → a.stack.base + falls c.code.undo ≤ a.regs.sp
     → a.regs.sp ≤ end a.stack
     → end a.stack < 2 ^ 32
@@ -52,7 +52,7 @@ Low u a = (after : Regs) → effect a.stack u a.regs ≡ ok after → after.sp <
 -- that of an epilogue does what its code does
 abbrev pub Closes : Type 0
 Closes =
-    (c : Coded) → IsCode c → (s : List ℕ) (o : ℕ) (a b : State) → Stands (item s o (closes false c)) → Executes (instructionAt s o) a b
+    (c : Coded) → IsCode c → (s : List ℕ) (o : ℕ) (a b : State) → Stands (item s o (closes false c)) → Executes (instruction_at s o) a b
     → Low c.code.undo a
     → Undoes c.code.undo a b
 
@@ -73,7 +73,7 @@ pub record Returns (u : Undo) (a b : State) : Type 0 where
 
 abbrev pub Lasts : Type 0
 Lasts =
-    (c : Coded) → IsCode c → (s : List ℕ) (o : ℕ) (a b : State) → Stands (item s o (closes true c)) → Executes (instructionAt s o) a b
+    (c : Coded) → IsCode c → (s : List ℕ) (o : ℕ) (a b : State) → Stands (item s o (closes true c)) → Executes (instruction_at s o) a b
     → Low c.code.undo a
     → Returns c.code.undo a b
 
@@ -81,8 +81,8 @@ Lasts =
 abbrev pub Leaves : Type 0
 Leaves =
     (s : List ℕ) (o : ℕ) (a b : State)
-    → (Stands (item s o (leaves 2)) → Executes (instructionAt s o) a b → Keeps a b × (b.regs.pc ≡ even a.regs.lr))
-    × (Stands (item s o (leaves 4)) → Executes (instructionAt s o) a b → Keeps a b)
+    → (Stands (item s o (leaves 2)) → Executes (instruction_at s o) a b → Keeps a b × (b.regs.pc ≡ even a.regs.lr))
+    × (Stands (item s o (leaves 4)) → Executes (instruction_at s o) a b → Keeps a b)
 
 pub record Means : Type 0 where
   pub opens : Opens

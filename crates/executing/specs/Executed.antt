@@ -20,9 +20,9 @@ use Rattle.codes.specs.declared.Undo.TheVariants.{Up, Pop, SpFrom, Vpop, LoadLr,
 use Rattle.pdata.specs.Pdata.{find}
 use Rattle.pdata.specs.declared.Entry.{Entry}
 use Rattle.record.specs.Record.{shape_at}
-use Rattle.frame.specs.Frame.{Inputs, fitStack}
-use Rattle.thumb.specs.Instruction.{instructionAt}
-use Rattle.comparing.specs.Items.{Coded, size_of, codedAt}
+use Rattle.frame.specs.Frame.{Inputs, fit_stack}
+use Rattle.thumb.specs.Instruction.{instruction_at}
+use Rattle.comparing.specs.Items.{Coded, size_of, coded_at}
 use Rattle.fitting.specs.Fitting.{fitted}
 use Rattle.fitting.specs.declared.Fitted.TheVariants.{Fits}
 use Rattle.forward.specs.Saving.{RX}
@@ -57,17 +57,17 @@ module _ (s : List ℕ) where
   pub data Opened (entry : State) : List Coded → State → Type 0 where
     none : Opened entry [] entry
     next :
-        {cs : List Coded} {a b : State} (c : Coded) → Opened entry cs a → Executes (instructionAt s (total size_of cs)) a b
+        {cs : List Coded} {a b : State} (c : Coded) → Opened entry cs a → Executes (instruction_at s (total size_of cs)) a b
         → OfNop c.code.undo (Rests (plain cs) a b)
         → Opened entry (c ∷ cs) b
 
   -- those of an epilogue's codes, from an offset on, the first code's first
-  pub data Closed (rX : ℕ → Type 0) : (offset : ℕ) → List Coded → State → State → Type 0 where
-    none : {o : ℕ} {a : State} → Closed rX o [] a a
+  pub data Closed (r_x : ℕ → Type 0) : (offset : ℕ) → List Coded → State → State → Type 0 where
+    none : {o : ℕ} {a : State} → Closed r_x o [] a a
     next :
-        {o : ℕ} {cs : List Coded} {a b z : State} (c : Coded) → Executes (instructionAt s o) a b → OfNop c.code.undo (Idles rX a b)
-        → Closed rX (o + size_of c) cs b z
-        → Closed rX o (c ∷ cs) a z
+        {o : ℕ} {cs : List Coded} {a b z : State} (c : Coded) → Executes (instruction_at s o) a b → OfNop c.code.undo (Idles r_x a b)
+        → Closed r_x (o + size_of c) cs b z
+        → Closed r_x o (c ∷ cs) a z
 
   -- a prologue, with room for it in the stack (RULES 10.7)
   pub record Entered (cs : List Coded) (entry left : State) : Type 0 where
@@ -117,14 +117,14 @@ module _ (s : List ℕ) where
 
   -- `Asked` of demand 3, with executed instructions for what it asks of them
   pub record Executed (t : Inputs) (entry now : State) : Type 0 where
-    pub passes1 : fitStack t.stack ≡ true
+    pub passes1 : fit_stack t.stack ≡ true
     pub own : Entry
     pub found : find t.image t.pdata now.regs.pc ≡ ok (some own)
     pub fits : fitted t.xdata own.word s ≡ Fits
     pub shape : Shape
     pub passes4-5 : shape_at t.xdata own.word ≡ ok shape
     pub view : View Coded
-    pub passes6-7 : Views.view size_of codedAt shape ≡ ok view
+    pub passes6-7 : Views.view size_of coded_at shape ≡ ok view
     pub fine : Fine (plain view.codes.list)
     pub offset : ℕ
     pub here : offset ≡ even now.regs.pc - t.image - own.start

@@ -3,9 +3,9 @@
 -- nothing is said, neither what a load takes from there nor what a store leaves.
 use Rattle.std.specs.Prelude.{ℕ, ◌+◌, ◌-◌, ◌%◌, ◌^◌, ◌≡◌, ◌≢◌, List, [], ◌∷◌, Bool, true, false, eqb}
 use Rattle.words.specs.Bits.{bit, even}
-use Rattle.words.specs.Units.{halfwordBytes}
+use Rattle.words.specs.Units.{halfword_bytes}
 use Rattle.words.specs.Answer.{if◌then◌else◌}
-use Rattle.lent.specs.Lent.{Lent, holds, wordAt}
+use Rattle.lent.specs.Lent.{Lent, holds, word_at}
 use Rattle.machine.specs.declared.Regs.{Regs}
 use Rattle.thumb.specs.declared.Action.{Action}
 use Rattle.thumb.specs.declared.Action.TheVariants.{Push, Pop, Vpush, Vpop, SubSp, AddSp, Mov, Store, Load, Bx, Branch, Other}
@@ -79,7 +79,7 @@ abbrev pub Passes : (size : ℕ) → State → State → Type 0
 Passes n s t = t.regs.pc ≡ plus s.regs.pc n
 
 abbrev pub LoadsPc : (at : ℕ) → State → State → Type 0
-LoadsPc a s t = holds s.stack a 4 ≡ true → t.regs.pc ≡ even (wordAt s.stack a)
+LoadsPc a s t = holds s.stack a 4 ≡ true → t.regs.pc ≡ even (word_at s.stack a)
 
 abbrev pub Which : Bool → Type 0 → Type 0 → Type 0
 Which true A B = A
@@ -101,4 +101,4 @@ Next Other n s t = Unit {0}
 
 pub record Executes (i : Instruction) (s t : State) : Type 0 where
   pub does : Acts i.action s t
-  pub next : Next i.action (halfwordBytes i.size) s t
+  pub next : Next i.action (halfword_bytes i.size) s t

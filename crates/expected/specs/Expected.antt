@@ -1,7 +1,7 @@
 -- The instruction that a code stands for, in a prologue (RULES 13.5) and in an epilogue (RULES 13.6).
 use Rattle.std.specs.Prelude.{ℕ, ◌+◌, ◌^◌, ◌<◌, Bool, true, false, ◌&&◌, ◌||◌, eqb}
 use Rattle.words.specs.Bits.{bit}
-use Rattle.words.specs.Units.{halfwords, stackBytes}
+use Rattle.words.specs.Units.{halfwords, stack_bytes}
 use Rattle.words.specs.Answer.{if◌then◌else◌}
 use Rattle.codes.specs.declared.Code.{Code}
 use Rattle.codes.specs.declared.Undo.{Undo}
@@ -36,23 +36,23 @@ abbrev pub lowering : (first : ℕ) → Action → Acts
 lowering b a = if eqb b 0x04 then OrHome a else This a
 
 -- in a prologue, of a code with this first byte
-abbrev pub actsBefore : (first : ℕ) → Undo → Acts
-actsBefore b (U.Up n) = lowering b (SubSp (stackBytes n))
-actsBefore b (U.Pop l) = This (Push l)
-actsBefore b (U.SpFrom x) = This (Mov x sp)
-actsBefore b (U.Vpop s e) = This (Vpush s e)
-actsBefore b (U.LoadLr n) = This (storing (stackBytes n))
-actsBefore b U.Nothing = Any
+abbrev pub acts_before : (first : ℕ) → Undo → Acts
+acts_before b (U.Up n) = lowering b (SubSp (stack_bytes n))
+acts_before b (U.Pop l) = This (Push l)
+acts_before b (U.SpFrom x) = This (Mov x sp)
+acts_before b (U.Vpop s e) = This (Vpush s e)
+acts_before b (U.LoadLr n) = This (storing (stack_bytes n))
+acts_before b U.Nothing = Any
 
 -- in the last code before FF, LR stands for PC
-abbrev pub orPc : (last : Bool) → ℕ
-orPc last = if last then pc else lr
+abbrev pub or_pc : (last : Bool) → ℕ
+or_pc last = if last then pc else lr
 
-abbrev pub withPc : (list : ℕ) → ℕ
-withPc l = if bit lr l then l + 2 ^ lr else l
+abbrev pub with_pc : (list : ℕ) → ℕ
+with_pc l = if bit lr l then l + 2 ^ lr else l
 
-abbrev pub listOrPc : (last : Bool) → (list : ℕ) → ℕ
-listOrPc last l = if last then withPc l else l
+abbrev pub list_or_pc : (last : Bool) → (list : ℕ) → ℕ
+list_or_pc last l = if last then with_pc l else l
 
 -- a list of registers as codes have them, so that PC's bit can be set in it
 abbrev pub Listed : Undo → Type 0
@@ -64,19 +64,19 @@ Listed (U.LoadLr n) = Unit {0}
 Listed U.Nothing = Unit {0}
 
 -- in an epilogue
-abbrev pub actsAfter : (last : Bool) → Undo → Acts
-actsAfter last (U.Up n) = This (AddSp (stackBytes n))
-actsAfter last (U.Pop l) = This (Pop (listOrPc last l))
-actsAfter last (U.SpFrom x) = This (Mov sp x)
-actsAfter last (U.Vpop s e) = This (Vpop s e)
-actsAfter last (U.LoadLr n) = This (loading (orPc last) (stackBytes n))
-actsAfter last U.Nothing = Any
+abbrev pub acts_after : (last : Bool) → Undo → Acts
+acts_after last (U.Up n) = This (AddSp (stack_bytes n))
+acts_after last (U.Pop l) = This (Pop (list_or_pc last l))
+acts_after last (U.SpFrom x) = This (Mov sp x)
+acts_after last (U.Vpop s e) = This (Vpop s e)
+acts_after last (U.LoadLr n) = This (loading (or_pc last) (stack_bytes n))
+acts_after last U.Nothing = Any
 
 abbrev pub before : (first : ℕ) → Code → Expected
-before b c = record { acts = actsBefore b c.undo; size = c.size }
+before b c = record { acts = acts_before b c.undo; size = c.size }
 
 abbrev pub after : (last : Bool) → Code → Expected
-after last c = record { acts = actsAfter last c.undo; size = c.size }
+after last c = record { acts = acts_after last c.undo; size = c.size }
 
 -- by the size of an end code's instruction: bx lr for FD, b for FE
 abbrev pub ending : (size : ℕ) → Expected

@@ -1,7 +1,7 @@
 // Which instruction a code stands for, in a prologue and in an epilogue, and whether an instruction is that one (RULES 13.5 to 13.8). It knows
 // neither lists of codes nor records.
 ghost use Rattle.std.specs.Prelude.{◌≡◌, ◌^◌, ◌<◌};
-ghost use Rattle.words.specs.Units.{halfwordBytes};
+ghost use Rattle.words.specs.Units.{halfword_bytes};
 ghost use Rattle.expected.specs.Expected as E;
 ghost use Rattle.expected.specs.Same as S;
 
@@ -111,7 +111,7 @@ fn storing(bytes: u64) -> Action
 
 // A load of LR, or of PC, at SP: of one word it is a pop.
 fn loading(pc: bool, bytes: u64) -> Action
-    ensures { result ≡ E.loading (E.orPc pc) bytes }
+    ensures { result ≡ E.loading (E.or_pc pc) bytes }
 {
     if bytes == 4 {
         if pc {
@@ -138,7 +138,7 @@ fn lowering(first: u8, a: Action) -> Acts
 
 // What the instruction of a code with this first byte does in a prologue.
 fn acts_before(first: u8, u: Undo) -> Acts
-    ensures { result ≡ E.actsBefore first u }
+    ensures { result ≡ E.spec_acts_before first u }
 {
     match u {
         Undo::Up(n) => lowering(first, Action::SubSp(stack_bytes(n))),
@@ -153,7 +153,7 @@ fn acts_before(first: u8, u: Undo) -> Acts
 // A list with PC in LR's place.
 fn with_pc(list: u32) -> u32
     requires { list < 2 ^ 15 }
-    ensures { result ≡ E.withPc list }
+    ensures { result ≡ E.spec_with_pc list }
 {
     if bit(list, 14) { list + 16384 } else { list }
 }
@@ -161,7 +161,7 @@ fn with_pc(list: u32) -> u32
 // The same where LR stands for PC.
 fn list_or_pc(last: bool, list: u32) -> u32
     requires { list < 2 ^ 15 }
-    ensures { result ≡ E.listOrPc last list }
+    ensures { result ≡ E.spec_list_or_pc last list }
 {
     if last { with_pc(list) } else { list }
 }
@@ -169,7 +169,7 @@ fn list_or_pc(last: bool, list: u32) -> u32
 // What the instruction of a code does in an epilogue, the last before FF or not.
 fn acts_after(last: bool, u: Undo) -> Acts
     requires { E.Listed u }
-    ensures { result ≡ E.actsAfter last u }
+    ensures { result ≡ E.spec_acts_after last u }
 {
     match u {
         Undo::Up(n) => Acts::This(Action::AddSp(stack_bytes(n))),
@@ -204,7 +204,7 @@ pub fn in_epilogue(last: bool, c: Code) -> Expected
 
 // The instruction of an end code, by its size: that of FD, or that of FE.
 pub fn at_end(size: Halfwords) -> Expected
-    ensures { result ≡ E.ending (halfwordBytes size) }
+    ensures { result ≡ E.ending (halfword_bytes size) }
 {
     if size.0 == 1 {
         Expected {

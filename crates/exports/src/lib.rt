@@ -3,13 +3,13 @@
 ghost use Rattle.std.specs.Prelude.{◌≡◌, length};
 ghost use Rattle.lent.specs.Lent.{lent};
 ghost use Rattle.pdata.specs.Pdata.{find, found};
-ghost use Rattle.xdata.specs.Xdata.{xdataSize, sizeAnswer};
-ghost use Rattle.packed.specs.Packed.{writeWord, wordAnswer};
-ghost use Rattle.packed_codes.specs.PackedCodes.{writeCodes, codesAnswer};
+ghost use Rattle.xdata.specs.Xdata.{xdata_size as spec_xdata_size, size_answer};
+ghost use Rattle.packed.specs.Packed.{write_word as spec_write_word, word_answer};
+ghost use Rattle.packed_codes.specs.PackedCodes.{write_codes as spec_write_codes, codes_answer};
 ghost use Rattle.text.specs.Overlay.{overlay};
 ghost use Rattle.listing.specs.Listing.{listing};
-ghost use Rattle.caller_text.specs.CallerText.{callerText};
-ghost use Rattle.exports.specs.Numbers.{foundNumbers, foundRefusal, fieldsIn, FoundTold, SizeTold, WordTold, CodesTold};
+ghost use Rattle.caller_text.specs.CallerText.{caller_text as spec_caller_text};
+ghost use Rattle.exports.specs.Numbers.{found_numbers, found_refusal, fields_in as spec_fields_in, FoundTold, SizeTold, WordTold, CodesTold};
 
 use packed::Packed;
 use pdata::Found;
@@ -29,7 +29,7 @@ pub extern "C" fn leafbobbin_walk(report: &[u8], out: &mut [u8]) -> usize
 // One frame's answer with every register: at most 1,024 bytes.
 #[unsafe(no_mangle)]
 pub extern "C" fn leafbobbin_caller(report: &[u8], out: &mut [u8]) -> usize
-    ensures { (result ≡ length (callerText report.now)) × (out.new ≡ overlay out.old 0 (callerText report.now)) }
+    ensures { (result ≡ length (spec_caller_text report.now)) × (out.new ≡ overlay out.old 0 (spec_caller_text report.now)) }
 {
     caller_text::show_caller(report, out)
 }
@@ -45,7 +45,7 @@ struct Told {
 }
 
 fn tell(f: Found) -> Told
-    ensures { (result.refusal ≡ foundRefusal f) × (result.record ≡ foundNumbers f) }
+    ensures { (result.refusal ≡ found_refusal f) × (result.record ≡ found_numbers f) }
 {
     match f {
         Found::Record(e) => Told {
@@ -77,7 +77,7 @@ pub extern "C" fn leafbobbin_find(image: u32, pdata: &[u8], pc: u32, out: &mut [
 // The bytes of the .xdata record at an RVA (RULES 2.13).
 #[unsafe(no_mangle)]
 pub extern "C" fn leafbobbin_size(rva: u32, xdata: &[u8], at: u32, bytes: &mut u32) -> u32
-    ensures { SizeTold (sizeAnswer (xdataSize (lent rva xdata.now) at)) result bytes.new }
+    ensures { SizeTold (size_answer (spec_xdata_size (lent rva xdata.now) at)) result bytes.new }
 {
     let size = xdata::xdata_size(rva, xdata, at);
     *bytes = size.bytes;
@@ -87,7 +87,7 @@ pub extern "C" fn leafbobbin_size(rva: u32, xdata: &[u8], at: u32, bytes: &mut u
 
 // Nine fields: Flag, length / 2, Ret, H, Reg, R, L, C, Stack Adjust.
 fn fields_in(fields: &[u32; 9]) -> Packed
-    ensures { result ≡ fieldsIn fields.now }
+    ensures { result ≡ spec_fields_in fields.now }
 {
     Packed {
         flag: fields[0],
@@ -105,7 +105,7 @@ fn fields_in(fields: &[u32; 9]) -> Packed
 // The packed word of nine fields (RULES 4.18).
 #[unsafe(no_mangle)]
 pub extern "C" fn leafbobbin_word(fields: &[u32; 9], word: &mut u32) -> u32
-    ensures { WordTold (wordAnswer (writeWord (fieldsIn fields.now))) result word.new }
+    ensures { WordTold (word_answer (spec_write_word (spec_fields_in fields.now))) result word.new }
 {
     let written = packed::write_word(fields_in(fields));
     *word = written.word;
@@ -116,7 +116,7 @@ pub extern "C" fn leafbobbin_word(fields: &[u32; 9], word: &mut u32) -> u32
 // The 16 code bytes of a packed word, and how many of them each of its lists has (RULES 4.19).
 #[unsafe(no_mangle)]
 pub extern "C" fn leafbobbin_codes(word: u32, bytes: &mut [u8; 16], lens: &mut [usize; 2]) -> u32
-    ensures { CodesTold (codesAnswer (writeCodes word)) result bytes.new lens.new }
+    ensures { CodesTold (codes_answer (spec_write_codes word)) result bytes.new lens.new }
 {
     let codes = packed_codes::write_codes(word);
     let list = codes.bytes;

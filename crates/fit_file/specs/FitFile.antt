@@ -17,37 +17,37 @@ abbrev pub mark : List ℕ
 mark = 0x46 ∷ 0x49 ∷ 0x54 ∷ 1 ∷ 0 ∷ 0 ∷ 0 ∷ 0 ∷ []
 
 -- the bytes before the .xdata: the mark and four words
-abbrev pub headBytes : ℕ
-headBytes = 8 + 4 * 4
+abbrev pub head_bytes : ℕ
+head_bytes = 8 + 4 * 4
 
 -- what the words say
 abbrev pub word_of : List ℕ → ℕ
 word_of s = word32 s 8
 
-abbrev pub rvaOf : List ℕ → ℕ
-rvaOf s = word32 s 12
+abbrev pub rva_of : List ℕ → ℕ
+rva_of s = word32 s 12
 
-abbrev pub xdataSize : List ℕ → ℕ
-xdataSize s = word32 s 16
+abbrev pub xdata_size : List ℕ → ℕ
+xdata_size s = word32 s 16
 
-abbrev pub codeSize : List ℕ → ℕ
-codeSize s = word32 s 20
+abbrev pub code_size : List ℕ → ℕ
+code_size s = word32 s 20
 
 -- where the code and the end stand
 abbrev pub code_at : List ℕ → ℕ
-code_at s = headBytes + xdataSize s
+code_at s = head_bytes + xdata_size s
 
 abbrev pub end_at : List ℕ → ℕ
-end_at s = code_at s + codeSize s
+end_at s = code_at s + code_size s
 
 -- the file whose lengths fit
-abbrev pub fitOf : List ℕ → FitFile
-fitOf s = record { word = word_of s; xdata = lent (rvaOf s) (part s headBytes (xdataSize s)); code = part s (code_at s) (codeSize s) }
+abbrev pub fit_of : List ℕ → FitFile
+fit_of s = record { word = word_of s; xdata = lent (rva_of s) (part s head_bytes (xdata_size s)); code = part s (code_at s) (code_size s) }
 
 -- a FIT file, or 14
-unfoldable pub fitFile : List ℕ → Res FitFile
-fitFile s = do
-  need (leb headBytes (length s) && leb (length s) 1048576) UnfitReport
+unfoldable pub fit_file : List ℕ → Res FitFile
+fit_file s = do
+  need (leb head_bytes (length s) && leb (length s) 1048576) UnfitReport
   need (same (take 8 s) mark) UnfitReport
   need (eqb (length s) (end_at s)) UnfitReport
-  ok (fitOf s)
+  ok (fit_of s)

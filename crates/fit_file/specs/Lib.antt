@@ -1,2 +1,2 @@
 pub mod FitFile
-pub mod as_coded
+pub mod AsCoded

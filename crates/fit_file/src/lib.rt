@@ -3,7 +3,7 @@ ghost use Rattle.std.specs.Prelude.{◌≡◌, ◌≤◌, length, take};
 ghost use Rattle.words.specs.declared.Refusal.TheVariants.{UnfitReport};
 ghost use Rattle.lent.specs.Parts.{same};
 ghost use Rattle.fit_file.specs.FitFile.{mark};
-ghost use Rattle.fit_file.specs.as_coded.Parts.{parts, noParts, Lie};
+ghost use Rattle.fit_file.specs.AsCoded.Parts.{parts, no_parts, Lie};
 
 use lent::word32;
 use words::{Refusal, Verdict};
@@ -35,7 +35,7 @@ fn marked(file: &[u8]) -> bool
 
 // Refusal 14, and nothing else.
 fn unfit() -> FitParts
-    ensures { result ≡ noParts UnfitReport }
+    ensures { result ≡ no_parts UnfitReport }
 {
     FitParts {
         verdict: Verdict::Refused(Refusal::UnfitReport),

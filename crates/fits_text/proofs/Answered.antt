@@ -17,29 +17,29 @@ use Rattle.fitting.specs.declared.FitRefusal.{FitRefusal}
 use Rattle.fitting.specs.declared.FitRefusal.TheVariants.{Record, Short, Differs}
 use Rattle.fitting.specs.declared.Fitted.{Fitted}
 use Rattle.fitting.specs.declared.Fitted.TheVariants.{Fits, Refused}
-use Rattle.fit_file.specs.FitFile.{FitFile, fitFile}
-use Rattle.fits_text.specs.FitsText.{numberText, refusalText, answerText, fileFitted, fitsText}
+use Rattle.fit_file.specs.FitFile.{FitFile, fit_file}
+use Rattle.fits_text.specs.FitsText.{number_text, refusal_text, answer_text, file_fitted, fits_text}
 
 -- a refusal's text, by its case
-pub record-text : {f : FitRefusal} {r : Refusal} → f ≡ Record r → numberText f ≡ refusalText f
+pub record-text : {f : FitRefusal} {r : Refusal} → f ≡ Record r → number_text f ≡ refusal_text f
 record-text e = rw e refl
 
-pub short-text : {f : FitRefusal} → f ≡ Short → numberText f ≡ refusalText f
+pub short-text : {f : FitRefusal} → f ≡ Short → number_text f ≡ refusal_text f
 short-text e = rw e refl
 
-pub differs-text : {f : FitRefusal} {o : ℕ} → f ≡ Differs o → numberText f ++ text " at " ++ hex8 o ≡ refusalText f
+pub differs-text : {f : FitRefusal} {o : ℕ} → f ≡ Differs o → number_text f ++ text " at " ++ hex8 o ≡ refusal_text f
 differs-text e = rw e refl
 
 -- the answer, by what was read
-pub fitted-given : (s : List ℕ) {f : FitFile} → fitFile s ≡ ok f → fitted f.xdata f.word f.code ≡ fileFitted s
-unfolding fileFitted
+pub fitted-given : (s : List ℕ) {f : FitFile} → fit_file s ≡ ok f → fitted f.xdata f.word f.code ≡ file_fitted s
+unfolding file_fitted
 fitted-given s e = rw e refl
 
-pub fitted-refused : (s : List ℕ) {r : Refusal} → fitFile s ≡ refuse r → Refused (Record r) ≡ fileFitted s
-unfolding fileFitted
+pub fitted-refused : (s : List ℕ) {r : Refusal} → fit_file s ≡ refuse r → Refused (Record r) ≡ file_fitted s
+unfolding file_fitted
 fitted-refused s e = rw e refl
 
-answer-length : (f : Fitted) → length (answerText f) ≤ 31
+answer-length : (f : Fitted) → length (answer_text f) ≤ 31
 answer-length Fits = omega arith
 answer-length (Refused (Record r)) = simp length-append (omega (arith, decimal-limit (number r)))
 answer-length (Refused Short) = simp length-append (omega (arith, decimal-limit 18))
@@ -47,11 +47,11 @@ answer-length (Refused (Differs o)) = simp length-append (omega (arith, decimal-
 
 -- a line laid from the buffer's start, as the contract says it
 pub shown :
-    (s : List ℕ) {f : Fitted} {b o : List ℕ} {r : ℕ} → f ≡ fileFitted s → Laid b 0 (answerText f ++ text "\n") r o
-    → ((r ≡ length (fitsText s)) × (o ≡ overlay b 0 (fitsText s))) × (r ≤ 32)
-unfolding fitsText
+    (s : List ℕ) {f : Fitted} {b o : List ℕ} {r : ℕ} → f ≡ file_fitted s → Laid b 0 (answer_text f ++ text "\n") r o
+    → ((r ≡ length (fits_text s)) × (o ≡ overlay b 0 (fits_text s))) × (r ≤ 32)
+unfolding fits_text
 shown s {f} e h =
-    let t = answerText (fileFitted s) in
-    let l : length (t ++ text "\n") ≤ 32 = omega (arith, length-append t (text "\n"), answer-length (fileFitted s)) in
-    let k = from_start (omega (arith, l)) (laid_as (ap (λ x. answerText x ++ text "\n") e) h) in
+    let t = answer_text (file_fitted s) in
+    let l : length (t ++ text "\n") ≤ 32 = omega (arith, length-append t (text "\n"), answer-length (file_fitted s)) in
+    let k = from_start (omega (arith, l)) (laid_as (ap (λ x. answer_text x ++ text "\n") e) h) in
     (k, omega (arith, k.0, l))

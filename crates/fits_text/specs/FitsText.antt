@@ -6,30 +6,30 @@
 use Rattle.std.specs.Prelude.{ℕ, List, ◌++◌}
 use Rattle.words.specs.Answer.{either}
 use Rattle.text.specs.Text.{text, decimal, hex8}
-use Rattle.fitting.specs.Fitting.{fitNumber, fitted}
+use Rattle.fitting.specs.Fitting.{fit_number, fitted}
 use Rattle.fitting.specs.declared.FitRefusal.{FitRefusal}
 use Rattle.fitting.specs.declared.FitRefusal.TheVariants.{Record, Short, Differs}
 use Rattle.fitting.specs.declared.Fitted.{Fitted}
 use Rattle.fitting.specs.declared.Fitted.TheVariants.{Fits, Refused}
-use Rattle.fit_file.specs.FitFile.{fitFile}
+use Rattle.fit_file.specs.FitFile.{fit_file}
 
-abbrev pub numberText : FitRefusal → List ℕ
-numberText r = text "refused " ++ decimal (fitNumber r)
+abbrev pub number_text : FitRefusal → List ℕ
+number_text r = text "refused " ++ decimal (fit_number r)
 
 -- 17 tells at which offset from the function's start
-abbrev pub refusalText : FitRefusal → List ℕ
-refusalText (Record r) = numberText (Record r)
-refusalText Short = numberText Short
-refusalText (Differs o) = numberText (Differs o) ++ text " at " ++ hex8 o
+abbrev pub refusal_text : FitRefusal → List ℕ
+refusal_text (Record r) = number_text (Record r)
+refusal_text Short = number_text Short
+refusal_text (Differs o) = number_text (Differs o) ++ text " at " ++ hex8 o
 
-abbrev pub answerText : Fitted → List ℕ
-answerText Fits = text "fits"
-answerText (Refused r) = refusalText r
+abbrev pub answer_text : Fitted → List ℕ
+answer_text Fits = text "fits"
+answer_text (Refused r) = refusal_text r
 
 -- 14 before all others
-unfoldable pub fileFitted : List ℕ → Fitted
-fileFitted s = either (fitFile s) (λ r. Refused (Record r)) (λ f. fitted f.xdata f.word f.code)
+unfoldable pub file_fitted : List ℕ → Fitted
+file_fitted s = either (fit_file s) (λ r. Refused (Record r)) (λ f. fitted f.xdata f.word f.code)
 
 -- a file's bytes in, the text out
-unfoldable pub fitsText : List ℕ → List ℕ
-fitsText s = answerText (fileFitted s) ++ text "\n"
+unfoldable pub fits_text : List ℕ → List ℕ
+fits_text s = answer_text (file_fitted s) ++ text "\n"

@@ -5,8 +5,8 @@ ghost use Rattle.lent.specs.Parts.{between};
 ghost use Rattle.text.specs.Text.{text, hex8};
 ghost use Rattle.text.specs.Overlay.{overlay, Laid};
 ghost use Rattle.fitting.specs.Fitting.{fitted};
-ghost use Rattle.fit_file.specs.as_coded.Parts.{Lie};
-ghost use Rattle.fits_text.specs.FitsText.{numberText, refusalText, answerText, fileFitted, fitsText};
+ghost use Rattle.fit_file.specs.AsCoded.Parts.{Lie};
+ghost use Rattle.fits_text.specs.FitsText.{number_text, refusal_text, answer_text, file_fitted, fits_text as spec_fits_text};
 
 use fit_file::{FitParts, read_fit};
 use fitting::{FitRefusal, Fitted};
@@ -18,7 +18,7 @@ pub const FITS_BYTES: usize = 32;
 
 // `refused R`.
 fn put_number(out: &mut [u8], refusal: FitRefusal) -> usize
-    ensures { Laid out.old 0 (numberText refusal) result out.new }
+    ensures { Laid out.old 0 (number_text refusal) result out.new }
 {
     let number = fitting::number(refusal);
     put_count(out, 0, b"refused ", number as u64)
@@ -34,7 +34,7 @@ fn put_offset(out: &mut [u8], at: usize, offset: u64) -> usize
 
 // Why a record does not fit.
 fn put_refusal(out: &mut [u8], refusal: FitRefusal) -> usize
-    ensures { Laid out.old 0 (refusalText refusal) result out.new }
+    ensures { Laid out.old 0 (refusal_text refusal) result out.new }
 {
     let next = put_number(out, refusal);
     match refusal {
@@ -46,7 +46,7 @@ fn put_refusal(out: &mut [u8], refusal: FitRefusal) -> usize
 
 // The line without its end.
 fn put_answer(out: &mut [u8], answer: Fitted) -> usize
-    ensures { Laid out.old 0 (answerText answer) result out.new }
+    ensures { Laid out.old 0 (answer_text answer) result out.new }
 {
     match answer {
         Fitted::Fits => put_text(out, 0, b"fits"),
@@ -67,7 +67,7 @@ fn check_parts(file: &[u8], p: FitParts) -> Fitted
 
 // The same of a file, or 14.
 fn check_file(file: &[u8]) -> Fitted
-    ensures { result ≡ fileFitted file.now }
+    ensures { result ≡ file_fitted file.now }
 {
     let p = read_fit(file);
     let verdict = p.verdict;
@@ -79,7 +79,7 @@ fn check_file(file: &[u8]) -> Fitted
 
 // The text of a FIT file, of which no more than FITS_BYTES are ever needed.
 pub fn answer_fits(file: &[u8], out: &mut [u8]) -> usize
-    ensures value { (result ≡ length (fitsText file.now)) × (out.new ≡ overlay out.old 0 (fitsText file.now)) }
+    ensures value { (result ≡ length (spec_fits_text file.now)) × (out.new ≡ overlay out.old 0 (spec_fits_text file.now)) }
     ensures upper_bound { result ≤ 32 }
 {
     let answer = check_file(file);

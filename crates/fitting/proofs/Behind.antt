@@ -8,20 +8,20 @@ use lib.ListN.{length, get_or, length-append, get_or-append}
 use lib.Dec.{leb, ltb, eqb}
 use native.Mathlib.Omega.{arith}
 use borrow.Author.Tests.{leb-true, leb-false, le-leb, ne_eqb}
-use Rattle.words.specs.Units.{halfwordBytes}
+use Rattle.words.specs.Units.{halfword_bytes}
 use Rattle.words.specs.Answer.{if◌then◌else◌}
 use Rattle.lent.specs.Lent.{Lent}
 use Rattle.lent.specs.Little.{word16}
 use Rattle.unwinding.specs.CodeList.{total}
 use Rattle.unwinding.specs.View.{EpilogueOf, View}
-use Rattle.thumb.specs.Instruction.{of16, of32, noInstruction, instructionAt}
+use Rattle.thumb.specs.Instruction.{of16, of32, no_instruction, instruction_at}
 use Rattle.thumb.specs.declared.Instruction.{Instruction}
 use Rattle.expected.specs.Expected.{allows, meets}
-use Rattle.comparing.specs.Items.{Coded, size_of, Role, opens, closes, leaves, Item, fits, expects, compared, is_last, item, prologueItems, epilogueItems}
+use Rattle.comparing.specs.Items.{Coded, size_of, Role, opens, closes, leaves, Item, fits, expects, compared, is_last, item, prologue_items, epilogue_items}
 use Rattle.comparing.specs.declared.Compared.{Compared}
 use Rattle.comparing.specs.declared.Compared.TheVariants.{Same, Differs}
 use Rattle.expected.specs.declared.Expected.{Expected}
-use Rattle.fitting.specs.Fitting.{epiloguesItems, items, answered, fitted}
+use Rattle.fitting.specs.Fitting.{epilogues_items, items, answered, fitted}
 use Rattle.fitting.specs.Exactly.{InLine, Reads}
 use Rattle.fitting.specs.declared.FitRefusal.TheVariants.{Short}
 use Rattle.fitting.specs.declared.Fitted.{Fitted}
@@ -39,23 +39,23 @@ other-size e i h = rw (ne_eqb e.size.0 i.size.0 h) refl
 
 -- an instruction whose bytes are there stays; one that is cut short has not the size that fits in there
 meets-behind :
-    (s t : List ℕ) (o : ℕ) (e : Expected) → 0 < halfwordBytes e.size → o + halfwordBytes e.size ≤ length s
-    → meets e (instructionAt (s ++ t) o) ≡ meets e (instructionAt s o)
-unfolding instructionAt
+    (s t : List ℕ) (o : ℕ) (e : Expected) → 0 < halfword_bytes e.size → o + halfword_bytes e.size ≤ length s
+    → meets e (instruction_at (s ++ t) o) ≡ meets e (instruction_at s o)
+unfolding instruction_at
 meets-behind s t o e p h =
     let n = length-append s t in
     let a : o + 2 ≤ length s = omega arith in
     let b : o + 2 ≤ length (s ++ t) = omega (arith, n) in
     rw (half-behind s t o a, le-leb (o + 2) (length s) a, le-leb (o + 2) (length (s ++ t)) b) (narrow (ltb (word16 s o) 0xE800))
   where
-    short : leb (o + 4) (length s) ≡ false → (c : Bool) (w : ℕ) → meets e (if c then of32 w else noInstruction) ≡ false
+    short : leb (o + 4) (length s) ≡ false → (c : Bool) (w : ℕ) → meets e (if c then of32 w else no_instruction) ≡ false
     short q true w = other-size e (of32 w) (λ z. omega (arith, z, leb-false (o + 4) (length s) q))
-    short q false w = other-size e noInstruction (λ z. omega (arith, z))
+    short q false w = other-size e no_instruction (λ z. omega (arith, z))
 
     wide :
         (c : Bool) → leb (o + 4) (length s) ≡ c
-        → meets e (if leb (o + 4) (length (s ++ t)) then of32 (2 ^ 16 * word16 s o + word16 (s ++ t) (o + 2)) else noInstruction)
-        ≡ meets e (if c then of32 (2 ^ 16 * word16 s o + word16 s (o + 2)) else noInstruction)
+        → meets e (if leb (o + 4) (length (s ++ t)) then of32 (2 ^ 16 * word16 s o + word16 (s ++ t) (o + 2)) else no_instruction)
+        ≡ meets e (if c then of32 (2 ^ 16 * word16 s o + word16 s (o + 2)) else no_instruction)
     wide true q =
         let l : o + 4 ≤ length s = leb-true _ _ q in
         let m : o + 4 ≤ length (s ++ t) = omega (arith, l, length-append s t) in
@@ -64,8 +64,8 @@ meets-behind s t o e p h =
 
     narrow :
         (b : Bool)
-        → meets e (if b then of16 (word16 s o) else if leb (o + 4) (length (s ++ t)) then of32 (2 ^ 16 * word16 s o + word16 (s ++ t) (o + 2)) else noInstruction)
-        ≡ meets e (if b then of16 (word16 s o) else if leb (o + 4) (length s) then of32 (2 ^ 16 * word16 s o + word16 s (o + 2)) else noInstruction)
+        → meets e (if b then of16 (word16 s o) else if leb (o + 4) (length (s ++ t)) then of32 (2 ^ 16 * word16 s o + word16 (s ++ t) (o + 2)) else no_instruction)
+        ≡ meets e (if b then of16 (word16 s o) else if leb (o + 4) (length s) then of32 (2 ^ 16 * word16 s o + word16 s (o + 2)) else no_instruction)
     narrow true = refl
     narrow false = wide (leb (o + 4) (length s)) refl
 
@@ -79,13 +79,13 @@ module _ (s t : List ℕ) where
   pairs-append none q = q
   pairs-append (pair o r p) q = pair o r (pairs-append p q)
 
-  prologue-pairs : (cs : List Coded) → Pairs s t (prologueItems s cs) (prologueItems t cs)
-  unfolding prologueItems
+  prologue-pairs : (cs : List Coded) → Pairs s t (prologue_items s cs) (prologue_items t cs)
+  unfolding prologue_items
   prologue-pairs [] = none
   prologue-pairs (c ∷ cs) = pairs-append (prologue-pairs cs) (pair (total size_of cs) (opens c) none)
 
-  epilogue-pairs : (o : ℕ) (cs : List Coded) (e : ℕ) → Pairs s t (epilogueItems s o cs e) (epilogueItems t o cs e)
-  unfolding epilogueItems
+  epilogue-pairs : (o : ℕ) (cs : List Coded) (e : ℕ) → Pairs s t (epilogue_items s o cs e) (epilogue_items t o cs e)
+  unfolding epilogue_items
   epilogue-pairs o [] e = go (eqb e 0)
     where
       go : (b : Bool) → Pairs s t (if b then [] else item s o (leaves e) ∷ []) (if b then [] else item t o (leaves e) ∷ [])
@@ -93,10 +93,10 @@ module _ (s t : List ℕ) where
       go false = pair o (leaves e) none
   epilogue-pairs o (c ∷ cs) e = pair o (closes (is_last cs e) c) (epilogue-pairs (o + size_of c) cs e)
 
-  epilogues-pairs : (es : List (EpilogueOf Coded)) → Pairs s t (epiloguesItems s es) (epiloguesItems t es)
-  unfolding epiloguesItems
+  epilogues-pairs : (es : List (EpilogueOf Coded)) → Pairs s t (epilogues_items s es) (epilogues_items t es)
+  unfolding epilogues_items
   epilogues-pairs [] = none
-  epilogues-pairs (e ∷ es) = pairs-append (epilogue-pairs e.start e.codes.list e.codes.endSize) (epilogues-pairs es)
+  epilogues-pairs (e ∷ es) = pairs-append (epilogue-pairs e.start e.codes.list e.codes.end_size) (epilogues-pairs es)
 
   items-pairs : (f : Bool) (v : View Coded) → Pairs s t (items s f v) (items t f v)
   items-pairs true v = epilogues-pairs v.epilogues
@@ -108,7 +108,7 @@ unfolding compared
 pairs-compared s t a b none l h = refl
 pairs-compared s t a b (pair {is} {js} o r p) l h =
     let e : Expected = expects r in
-    let n : o + halfwordBytes e.size ≤ length s = omega (arith, line-le _ b is l.2, h) in
+    let n : o + halfword_bytes e.size ≤ length s = omega (arith, line-le _ b is l.2, h) in
     ap₂ (λ (x : Bool) (y : Compared). if x then y else Differs o) (meets-behind s t o e l.1 n) (pairs-compared s t _ b p l.2 h)
 
 pub fit-behind : (x : Lent) (w : ℕ) (s t : List ℕ) → (fitted x w s ≡ Refused Short → ⊥) → fitted x w (s ++ t) ≡ fitted x w s

@@ -17,15 +17,15 @@ use Rattle.lent.specs.Lent.{Lent}
 use Rattle.unwinding.specs.Shape.{Shape}
 use Rattle.unwinding.specs.View.{View, view}
 use Rattle.unwinding.proofs.Mapping.{mapped, view_of}
-use Rattle.codes.specs.Code.{size, codesAt}
-use Rattle.xdata.specs.Xdata.{fitXdata}
+use Rattle.codes.specs.Code.{size, codes_at}
+use Rattle.xdata.specs.Xdata.{fit_xdata}
 use Rattle.record.specs.Record.{shape_at}
-use Rattle.place.specs.Judged.{viewAt}
-use Rattle.comparing.specs.Items.{Coded, size_of, codedAt, Item, compared}
+use Rattle.place.specs.Judged.{view_at}
+use Rattle.comparing.specs.Items.{Coded, size_of, coded_at, Item, compared}
 use Rattle.comparing.specs.declared.Compared.{Compared}
 use Rattle.comparing.specs.declared.Compared.TheVariants as C
 use Rattle.comparing.proofs.Scanning.{view-coded}
-use Rattle.fitting.specs.Fitting.{items, answered, viewFitted, shapeFitted, fitted}
+use Rattle.fitting.specs.Fitting.{items, answered, view_fitted, shape_fitted, fitted}
 use Rattle.fitting.specs.Exactly.{InLine, Reads, Compares, Passes, DiffersAt, IsShort, Unread, Exactly}
 use Rattle.fitting.specs.declared.FitRefusal.{FitRefusal}
 use Rattle.fitting.specs.declared.FitRefusal.TheVariants.{Record, Short, Differs}
@@ -37,9 +37,9 @@ use Rattle.fitting.proofs.Whole.{fit-unfit, fit-shape, fit_refused}
 
 module _ (x : Lent) (w : ℕ) (s : List ℕ) where
   -- a record that is read
-  fit-read : (q : Reads x w) → viewFitted s q.shape q.view ≡ fitted x w s
+  fit-read : (q : Reads x w) → view_fitted s q.shape q.view ≡ fitted x w s
   fit-read q =
-      ap (λ y. either y (λ r. Refused (Record r)) (viewFitted s q.shape)) (sym q.passes6-7) ∙ fit-shape x w s (ok q.shape) q.passes1 q.passes4-5
+      ap (λ y. either y (λ r. Refused (Record r)) (view_fitted s q.shape)) (sym q.passes6-7) ∙ fit-shape x w s (ok q.shape) q.passes1 q.passes4-5
 
   pub fit-long : (q : Reads x w) → q.shape.span ≤ length s → answered (compared (items s q.shape.fragment q.view)) ≡ fitted x w s
   fit-long q h = if-false (Refused Short) _ (le-ltb _ _ h) ∙ fit-read q
@@ -53,26 +53,26 @@ module _ (x : Lent) (w : ℕ) (s : List ℕ) where
     short : IsShort x w s → Way (Refused Short)
     long : (q : Reads x w) → q.shape.span ≤ length s → Way (answered (compared (items s q.shape.fragment q.view)))
 
-  refused-view : (sh : Shape) (r : Refusal) → shape_at x w ≡ ok sh → view size_of codedAt sh ≡ refuse r → viewAt x w ≡ refuse r
-  refused-view sh r e f = ap (λ y. y >>= view size codesAt) e ∙ sym (view-coded sh) ∙ ap (mapped (view_of (λ (d : Coded). d.code))) f
+  refused-view : (sh : Shape) (r : Refusal) → shape_at x w ≡ ok sh → view size_of coded_at sh ≡ refuse r → view_at x w ≡ refuse r
+  refused-view sh r e f = ap (λ y. y >>= view size codes_at) e ∙ sym (view-coded sh) ∙ ap (mapped (view_of (λ (d : Coded). d.code))) f
 
   pub way : Way (fitted x w s)
   unfolding fitted
-  way = by-xdata (fitXdata x) refl
+  way = by-xdata (fit_xdata x) refl
     where
       by_span : (q : Reads x w) (t : Bool) → ltb (length s) q.shape.span ≡ t → Way (if t then Refused Short else answered (compared (items s q.shape.fragment q.view)))
       by_span q true h = short (record { reads = q; short = ltb-true _ _ h })
       by_span q false h = long q (ltb-false _ _ h)
 
-      by-view : fitXdata x ≡ true → (sh : Shape) → shape_at x w ≡ ok sh → (y : Res (View Coded)) → view size_of codedAt sh ≡ y → Way (either y (λ r. Refused (Record r)) (viewFitted s sh))
+      by-view : fit_xdata x ≡ true → (sh : Shape) → shape_at x w ≡ ok sh → (y : Res (View Coded)) → view size_of coded_at sh ≡ y → Way (either y (λ r. Refused (Record r)) (view_fitted s sh))
       by-view h sh e (ok v) f = by_span (record { passes1 = h; shape = sh; passes4-5 = e; view = v; passes6-7 = f }) (ltb (length s) sh.span) refl
       by-view h sh e (refuse r) f = unread r (inr (h, refused-view sh r e f))
 
-      by_shape : fitXdata x ≡ true → (y : Res Shape) → shape_at x w ≡ y → Way (either y (λ r. Refused (Record r)) (shapeFitted s))
-      by_shape h (ok sh) e = by-view h sh e (view size_of codedAt sh) refl
-      by_shape h (refuse r) e = unread r (inr (h, ap (λ y. y >>= view size codesAt) e))
+      by_shape : fit_xdata x ≡ true → (y : Res Shape) → shape_at x w ≡ y → Way (either y (λ r. Refused (Record r)) (shape_fitted s))
+      by_shape h (ok sh) e = by-view h sh e (view size_of coded_at sh) refl
+      by_shape h (refuse r) e = unread r (inr (h, ap (λ y. y >>= view size codes_at) e))
 
-      by-xdata : (t : Bool) → fitXdata x ≡ t → Way (if t then either (shape_at x w) (λ r. Refused (Record r)) (shapeFitted s) else Refused (Record UnfitInput))
+      by-xdata : (t : Bool) → fit_xdata x ≡ t → Way (if t then either (shape_at x w) (λ r. Refused (Record r)) (shape_fitted s) else Refused (Record UnfitInput))
       by-xdata true h = by_shape h (shape_at x w) refl
       by-xdata false h = unread UnfitInput (inl (h, refl))
 

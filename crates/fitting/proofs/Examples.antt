@@ -8,20 +8,20 @@ use Rattle.record.proofs.Opened as Tables
 use Rattle.lent.specs.Lent.{lent}
 use Rattle.lent.proofs.Bytes.{bytes_of}
 use Rattle.thumb.proofs.Opened as Thumb
-use Rattle.comparing.specs.Items.{compared, prologueItems, epilogueItems}
+use Rattle.comparing.specs.Items.{compared, prologue_items, epilogue_items}
 use Rattle.expected.specs.Same.{same}
-use Rattle.fitting.specs.Fitting.{fitNumber, epiloguesItems, fitted}
+use Rattle.fitting.specs.Fitting.{fit_number, epilogues_items, fitted}
 use Rattle.fitting.specs.declared.FitRefusal.TheVariants.{Differs}
 use Rattle.fitting.specs.declared.Fitted.{Fitted}
 use Rattle.fitting.specs.declared.Fitted.TheVariants.{Fits, Refused}
 
 unfoldable pub opened : Unit {0}
-unfolding Tables.opened Thumb.opened compared prologueItems epilogueItems same epiloguesItems fitted
+unfolding Tables.opened Thumb.opened compared prologue_items epilogue_items same epilogues_items fitted
 opened = tt
 
 abbrev number_of : Fitted → ℕ
 number_of Fits = 0
-number_of (Refused r) = fitNumber r
+number_of (Refused r) = fit_number r
 
 -- ---- the packed record of RULES 4.20: push {r4,r5,lr}, sub sp,#8; add sp,#8, pop {r4,r5,pc}. Two halfwords a word, the first lowest
 abbrev body : List ℕ

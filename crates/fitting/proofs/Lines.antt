@@ -8,7 +8,7 @@ use lib.ListN.{drop}
 use lib.Dec.{leb, eqb}
 use native.Mathlib.Omega.{arith}
 use borrow.Author.Tests.{leb-true, leb-false, eqb-true, eqb-false}
-use Rattle.words.specs.Units.{codeBytes, halfwordBytes}
+use Rattle.words.specs.Units.{code_bytes, halfword_bytes}
 use Rattle.words.specs.declared.CodeBytes.{CodeBytes}
 use Rattle.words.specs.Answer.{ok, if◌then◌else◌}
 use Rattle.words.proofs.Answers.{bind_ok, ok_same}
@@ -17,18 +17,18 @@ use Rattle.unwinding.specs.CodeList.{Codes, total}
 use Rattle.unwinding.specs.Shape.{Shape, start_of}
 use Rattle.unwinding.specs.Taking.{Scan, one, last}
 use Rattle.unwinding.specs.View.{EpilogueOf, View, Stretch, stretch, epilogues, view}
-use Rattle.unwinding.specs.as_coded.Lined.{empty, reachOf, next, lined}
+use Rattle.unwinding.specs.AsCoded.Lined.{empty, reach_of, next, lined}
 use Rattle.unwinding.specs.declared.Scope.{Scope}
 use Rattle.unwinding.proofs.All.{All, Sized}
 use Rattle.unwinding.proofs.Lined.{fits-lined}
 use Rattle.unwinding.proofs.Scanning.{by-scan, codes_all}
 use Rattle.unwinding.proofs.Viewed.{viewed}
-use Rattle.codes.specs.Code.{seen, taking, takeAt}
+use Rattle.codes.specs.Code.{seen, taking, take_at}
 use Rattle.codes.proofs.Scanning.{take-size, take_last}
 use Rattle.expected.specs.Expected.{ending}
-use Rattle.comparing.specs.Items.{Coded, size_of, takingCoded, scanCoded, codedAt, Item, opens, closes, leaves, expects, item, is_last, prologueItems, epilogueItems}
+use Rattle.comparing.specs.Items.{Coded, size_of, taking_coded, scan_coded, coded_at, Item, opens, closes, leaves, expects, item, is_last, prologue_items, epilogue_items}
 use Rattle.comparing.proofs.Scanning.{takes-coded, taken-one, taken-last}
-use Rattle.fitting.specs.Fitting.{epiloguesItems, items}
+use Rattle.fitting.specs.Fitting.{epilogues_items, items}
 use Rattle.fitting.specs.Exactly.{InLine}
 
 line-from : (a m b : ℕ) (ys : List Item) → a ≤ m → InLine m ys b → InLine a ys b
@@ -56,13 +56,13 @@ line-none a b (i ∷ xs) h k = absurd (omega (arith, h.0, h.1, line-le _ b xs h.
 record Ends (c : Codes Coded) : Type 0 where
   sized : Sized size_of c.list
   half : ℕ
-  is : c.endSize ≡ 2 * half
+  is : c.end_size ≡ 2 * half
   small : half ≤ 2
 
 abbrev Half : ℕ → Type 0
 Half n = (h : ℕ) × (n ≡ 2 * h) × (h ≤ 2)
 
-end-half : (k : List ℕ) (i : CodeBytes) (n : ℕ) → (scanCoded k i).ending ≡ ok n → Half n
+end-half : (k : List ℕ) (i : CodeBytes) (n : ℕ) → (scan_coded k i).ending ≡ ok n → Half n
 end-half k i =
     by-scan takes-coded k (λ j (x : Scan Coded). (n : ℕ) → x.ending ≡ ok n → Half n)
     (λ j c next r e ih. ih)
@@ -70,69 +70,69 @@ end-half k i =
     (λ j b e n q. absurd (let z : ◌≡◌ {A = ℕ} 0 1 = cc in omega arith))
     i
 
-ends : (k : List ℕ) (i : CodeBytes) (c : Codes Coded) → codedAt k i ≡ ok c → Ends c
+ends : (k : List ℕ) (i : CodeBytes) (c : Codes Coded) → coded_at k i ≡ ok c → Ends c
 ends k i c q =
-    let a = bind_ok (scanCoded k i).ending _ c q in
-    let z : record { list = (scanCoded k i).list; endSize = a.0 } ≡ c = ok_same _ _ a.2 in
+    let a = bind_ok (scan_coded k i).ending _ c q in
+    let z : record { list = (scan_coded k i).list; end_size = a.0 } ≡ c = ok_same _ _ a.2 in
     let w = end-half k i a.0 a.1 in
     record {
       sized = codes_all takes-coded (λ (d : Coded). 0 < size_of d) k (λ j d next e. let t = take-size k j (taken-one j (drop j k) e) in omega (arith, t)) i c q;
       half = w.0;
-      is = sym (ap (λ (x : Codes Coded). x.endSize) z) ∙ w.1;
+      is = sym (ap (λ (x : Codes Coded). x.end_size) z) ∙ w.1;
       small = w.2;
     }
 
-end-size : (e h : ℕ) → e ≡ 2 * h → h ≤ 2 → (e ≡ 0 → ⊥) → halfwordBytes (ending e).size ≡ e
+end-size : (e h : ℕ) → e ≡ 2 * h → h ≤ 2 → (e ≡ 0 → ⊥) → halfword_bytes (ending e).size ≡ e
 end-size e h q l n = go (eqb e 2) refl
   where
-    go : (t : Bool) → eqb e 2 ≡ t → halfwordBytes (ending e).size ≡ e
+    go : (t : Bool) → eqb e 2 ≡ t → halfword_bytes (ending e).size ≡ e
     go true r = let z : 2 ≡ e = sym (eqb-true e 2 r) in rw r z
     go false r = let z : 4 ≡ e = omega (arith, eqb-false e 2 r) in rw r z
 
 module _ (s : List ℕ) where
-  prologue-line : (cs : List Coded) → Sized size_of cs → InLine 0 (prologueItems s cs) (total size_of cs)
-  unfolding prologueItems total
+  prologue-line : (cs : List Coded) → Sized size_of cs → InLine 0 (prologue_items s cs) (total size_of cs)
+  unfolding prologue_items total
   prologue-line [] h = omega arith
   prologue-line (c ∷ cs) h =
-      line-append 0 (total size_of cs) (size_of c + total size_of cs) (prologueItems s cs) (item s (total size_of cs) (opens c) ∷ []) (prologue-line cs h.1) (omega arith, h.0, omega arith)
+      line-append 0 (total size_of cs) (size_of c + total size_of cs) (prologue_items s cs) (item s (total size_of cs) (opens c) ∷ []) (prologue-line cs h.1) (omega arith, h.0, omega arith)
 
-  epilogue-line : (o : ℕ) (cs : List Coded) (e h : ℕ) → Sized size_of cs → e ≡ 2 * h → h ≤ 2 → InLine o (epilogueItems s o cs e) (o + total size_of cs + e)
-  unfolding epilogueItems total
+  epilogue-line : (o : ℕ) (cs : List Coded) (e h : ℕ) → Sized size_of cs → e ≡ 2 * h → h ≤ 2 → InLine o (epilogue_items s o cs e) (o + total size_of cs + e)
+  unfolding epilogue_items total
   epilogue-line o [] e h z q l = go (eqb e 0) refl
     where
       go : (t : Bool) → eqb e 0 ≡ t → InLine o (if t then [] else item s o (leaves e) ∷ []) (o + 0 + e)
       go true r = omega arith
       go false r =
-          let m : halfwordBytes (ending e).size ≡ e = end-size e h q l (eqb-false e 0 r) in
+          let m : halfword_bytes (ending e).size ≡ e = end-size e h q l (eqb-false e 0 r) in
           (omega arith, omega (arith, m, eqb-false e 0 r), omega (arith, m))
   epilogue-line o (c ∷ cs) e h z q l =
-      (omega arith, z.0, line-up _ _ _ (epilogueItems s (o + size_of c) cs e) (epilogue-line (o + size_of c) cs e h z.1 q l) (omega arith))
+      (omega arith, z.0, line-up _ _ _ (epilogue_items s (o + size_of c) cs e) (epilogue-line (o + size_of c) cs e h z.1 q l) (omega arith))
 
   -- epilogues that stand in line behind an offset
   epilogues-line :
-      (sh : Shape) (scs : List Scope) (exs : List (EpilogueOf Coded)) (floor reach : ℕ) → epilogues size_of codedAt sh scs ≡ ok exs
-      → lined sh.span floor reach (map stretch exs) ≡ true → reach ≤ sh.span → InLine reach (epiloguesItems s exs) sh.span
-  unfolding epilogues epiloguesItems
-  epilogues-line sh [] exs f r q h b = subst (λ l. InLine r (epiloguesItems s l) sh.span) (ok_same [] exs q) b
+      (sh : Shape) (scs : List Scope) (exs : List (EpilogueOf Coded)) (floor reach : ℕ) → epilogues size_of coded_at sh scs ≡ ok exs
+      → lined sh.span floor reach (map stretch exs) ≡ true → reach ≤ sh.span → InLine reach (epilogues_items s exs) sh.span
+  unfolding epilogues epilogues_items
+  epilogues-line sh [] exs f r q h b = subst (λ l. InLine r (epilogues_items s l) sh.span) (ok_same [] exs q) b
   epilogues-line sh (e ∷ es) exs f r q h b =
-      let a = bind_ok (codedAt sh.codes e.index) _ exs q in
-      let m = bind_ok (epilogues size_of codedAt sh es) _ exs a.2 in
+      let a = bind_ok (coded_at sh.codes e.index) _ exs q in
+      let m = bind_ok (epilogues size_of coded_at sh es) _ exs a.2 in
       let c = a.0 in
-      let n = total size_of c.list + c.endSize in
+      let n = total size_of c.list + c.end_size in
       let x : EpilogueOf Coded = record { start = start_of e.start sh.span n; size = n; condition = e.condition; codes = c } in
       let z : x ∷ m.0 ≡ exs = ok_same (x ∷ m.0) exs m.2 in
       let w = ends sh.codes e.index c a.1 in
-      let here : InLine x.start (epilogueItems s x.start c.list c.endSize) (x.start + n) =
-      line-up _ _ _ (epilogueItems s x.start c.list c.endSize) (epilogue-line x.start c.list c.endSize w.half w.sized w.is w.small) (omega arith) in
-      subst (λ l. InLine r (epiloguesItems s l) sh.span) z
+      let here : InLine x.start (epilogue_items s x.start c.list c.end_size) (x.start + n) =
+      line-up _ _ _ (epilogue_items s x.start c.list c.end_size) (epilogue-line x.start c.list c.end_size w.half w.sized w.is w.small) (omega arith) in
+      subst (λ l. InLine r (epilogues_items s l) sh.span) z
       (one_line x m.0 sh f r here (subst (λ l. lined sh.span f r (map stretch l) ≡ true) (sym z) h) b (λ g t k l. epilogues-line sh es m.0 g t m.1 k l))
     where
       one_line :
           (x : EpilogueOf Coded) (rest : List (EpilogueOf Coded)) (sh : Shape) (f r : ℕ)
-          → InLine x.start (epilogueItems s x.start x.codes.list x.codes.endSize) (x.start + x.size)
+          → InLine x.start (epilogue_items s x.start x.codes.list x.codes.end_size) (x.start + x.size)
           → lined sh.span f r (stretch x ∷ map stretch rest) ≡ true → r ≤ sh.span
-          → ((g t : ℕ) → lined sh.span g t (map stretch rest) ≡ true → t ≤ sh.span → InLine t (epiloguesItems s rest) sh.span)
-          → InLine r (epilogueItems s x.start x.codes.list x.codes.endSize ++ epiloguesItems s rest) sh.span
+          → ((g t : ℕ) → lined sh.span g t (map stretch rest) ≡ true → t ≤ sh.span → InLine t (epilogues_items s rest) sh.span)
+          → InLine r (epilogue_items s x.start x.codes.list x.codes.end_size ++ epilogues_items s rest) sh.span
       one_line x rest sh f r here h b ih =
           let p = both (next sh.span f r (stretch x)) _ h in
           let q = both (leb f x.start && leb (x.start + x.size) sh.span) (empty (stretch x) || leb r x.start) p.0 in
@@ -142,26 +142,26 @@ module _ (s : List ℕ) where
           go :
               (t : Bool) → leb (x.start + x.size) x.start ≡ t → (t || leb r x.start) ≡ true
               → lined sh.span (x.start + 1) (if t then r else x.start + x.size) (map stretch rest) ≡ true → x.start + x.size ≤ sh.span
-              → InLine r (epilogueItems s x.start x.codes.list x.codes.endSize ++ epiloguesItems s rest) sh.span
+              → InLine r (epilogue_items s x.start x.codes.list x.codes.end_size ++ epilogues_items s rest) sh.span
           go true e q l k =
-              let none = line-none x.start (x.start + x.size) (epilogueItems s x.start x.codes.list x.codes.endSize) here (leb-true _ _ e) in
+              let none = line-none x.start (x.start + x.size) (epilogue_items s x.start x.codes.list x.codes.end_size) here (leb-true _ _ e) in
               rw none (ih (x.start + 1) r l b)
           go false e q l k =
-              line-append r (x.start + x.size) sh.span (epilogueItems s x.start x.codes.list x.codes.endSize) (epiloguesItems s rest)
-              (line-from r x.start (x.start + x.size) (epilogueItems s x.start x.codes.list x.codes.endSize) (leb-true _ _ q) here)
+              line-append r (x.start + x.size) sh.span (epilogue_items s x.start x.codes.list x.codes.end_size) (epilogues_items s rest)
+              (line-from r x.start (x.start + x.size) (epilogue_items s x.start x.codes.list x.codes.end_size) (leb-true _ _ q) here)
               (ih (x.start + 1) (x.start + x.size) l k)
 
-  pub items-line : (sh : Shape) (v : View Coded) → view size_of codedAt sh ≡ ok v → InLine 0 (items s sh.fragment v) sh.span
+  pub items-line : (sh : Shape) (v : View Coded) → view size_of coded_at sh ≡ ok v → InLine 0 (items s sh.fragment v) sh.span
   items-line sh v q =
-      let w = viewed size_of codedAt sh v q in
+      let w = viewed size_of coded_at sh v q in
       let k = both (leb v.prologue sh.span) _ (sym (fits-lined sh.span v.prologue v.epilogues) ∙ w.fit) in
       let low = leb-true _ _ k.0 in
       let rest = epilogues-line sh sh.scopes v.epilogues 0 v.prologue w.epilogues k.1 low in
-      go sh.fragment w.prologue rest (ends sh.codes (codeBytes 0) v.codes w.codes).sized
+      go sh.fragment w.prologue rest (ends sh.codes (code_bytes 0) v.codes w.codes).sized
     where
       go :
-          (f : Bool) → v.prologue ≡ (if f then 0 else total size_of v.codes.list) → InLine v.prologue (epiloguesItems s v.epilogues) sh.span → Sized size_of v.codes.list
+          (f : Bool) → v.prologue ≡ (if f then 0 else total size_of v.codes.list) → InLine v.prologue (epilogues_items s v.epilogues) sh.span → Sized size_of v.codes.list
           → InLine 0 (items s f v) sh.span
-      go true e rest z = line-from 0 v.prologue sh.span (epiloguesItems s v.epilogues) (omega arith) rest
+      go true e rest z = line-from 0 v.prologue sh.span (epilogues_items s v.epilogues) (omega arith) rest
       go false e rest z =
-          line-append 0 v.prologue sh.span (prologueItems s v.codes.list) (epiloguesItems s v.epilogues) (line-up 0 _ _ (prologueItems s v.codes.list) (prologue-line v.codes.list z) (omega (arith, e))) rest
+          line-append 0 v.prologue sh.span (prologue_items s v.codes.list) (epilogues_items s v.epilogues) (line-up 0 _ _ (prologue_items s v.codes.list) (prologue-line v.codes.list z) (omega (arith, e))) rest

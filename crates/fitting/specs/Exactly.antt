@@ -3,17 +3,17 @@
 use Rattle.std.specs.Prelude.{ℕ, ◌+◌, ◌≤◌, ◌<◌, ◌≡◌, ◌⊎◌, List, [], ◌∷◌, ◌++◌, true, false, length}
 use Rattle.words.specs.declared.Refusal.{Refusal}
 use Rattle.words.specs.declared.Refusal.TheVariants.{UnfitInput}
-use Rattle.words.specs.Units.{halfwordBytes}
+use Rattle.words.specs.Units.{halfword_bytes}
 use Rattle.words.specs.Answer.{ok, refuse}
 use Rattle.lent.specs.Lent.{Lent}
 use Rattle.unwinding.specs.Shape.{Shape}
 use Rattle.unwinding.specs.View as Views
-use Rattle.xdata.specs.Xdata.{fitXdata}
+use Rattle.xdata.specs.Xdata.{fit_xdata}
 use Rattle.record.specs.Record.{shape_at}
-use Rattle.place.specs.Judged.{viewAt}
+use Rattle.place.specs.Judged.{view_at}
 use Rattle.thumb.specs.declared.Action.{Action}
 use Rattle.expected.specs.Expected.{home}
-use Rattle.comparing.specs.Items.{Coded, size_of, codedAt, Item, expects}
+use Rattle.comparing.specs.Items.{Coded, size_of, coded_at, Item, expects}
 use Rattle.expected.specs.declared.Acts.{Acts}
 use Rattle.expected.specs.declared.Acts.TheVariants.{Any, This, OrHome}
 use Rattle.fitting.specs.Fitting.{items}
@@ -39,15 +39,15 @@ AllStand (i ∷ is) = Stands i × AllStand is
 -- instructions from one offset up to another, each with bytes of its own, behind those of the one before: so the first is the lowest
 abbrev pub InLine : (from : ℕ) → List Item → (to : ℕ) → Type 0
 InLine a [] b = a ≤ b
-InLine a (i ∷ is) b = (a ≤ i.offset) × (0 < halfwordBytes (expects i.role).size) × InLine (i.offset + halfwordBytes (expects i.role).size) is b
+InLine a (i ∷ is) b = (a ≤ i.offset) × (0 < halfword_bytes (expects i.role).size) × InLine (i.offset + halfword_bytes (expects i.role).size) is b
 
 -- a record that 1 and 4 to 7 do not refuse
 pub record Reads (x : Lent) (w : ℕ) : Type 0 where
-  pub passes1 : fitXdata x ≡ true
+  pub passes1 : fit_xdata x ≡ true
   pub shape : Shape
   pub passes4-5 : shape_at x w ≡ ok shape
   pub view : Views.View Coded
-  pub passes6-7 : Views.view size_of codedAt shape ≡ ok view
+  pub passes6-7 : Views.view size_of coded_at shape ≡ ok view
 
 -- nor does 18, and these are its offsets, codes and instructions
 pub record Compares (x : Lent) (w : ℕ) (s : List ℕ) (is : List Item) : Type 0 where
@@ -76,7 +76,7 @@ pub record IsShort (x : Lent) (w : ℕ) (s : List ℕ) : Type 0 where
 
 -- 1, and then what 4 to 7 say of the record
 abbrev pub Unread : Lent → ℕ → Refusal → Type 0
-Unread x w r = ((fitXdata x ≡ false) × (r ≡ UnfitInput)) ⊎ ((fitXdata x ≡ true) × (viewAt x w ≡ refuse r))
+Unread x w r = ((fit_xdata x ≡ false) × (r ≡ UnfitInput)) ⊎ ((fit_xdata x ≡ true) × (view_at x w ≡ refuse r))
 
 abbrev pub Iff : Type 0 → Type 0 → Type 0
 Iff A B = (A → B) × (B → A)

@@ -6,9 +6,9 @@ use Rattle.words.specs.Answer.{if◌then◌else◌, either}
 use Rattle.lent.specs.Lent.{Lent}
 use Rattle.unwinding.specs.Shape.{Shape}
 use Rattle.unwinding.specs.View.{EpilogueOf, View, view}
-use Rattle.xdata.specs.Xdata.{fitXdata}
+use Rattle.xdata.specs.Xdata.{fit_xdata}
 use Rattle.record.specs.Record.{shape_at}
-use Rattle.comparing.specs.Items.{Coded, size_of, codedAt, Item, prologueItems, epilogueItems, compared}
+use Rattle.comparing.specs.Items.{Coded, size_of, coded_at, Item, prologue_items, epilogue_items, compared}
 use Rattle.comparing.specs.declared.Compared.{Compared}
 use Rattle.comparing.specs.declared.Compared.TheVariants as C
 use Rattle.fitting.specs.declared.FitRefusal.{FitRefusal}
@@ -17,18 +17,18 @@ use Rattle.fitting.specs.declared.Fitted.{Fitted}
 use Rattle.fitting.specs.declared.Fitted.TheVariants.{Fits, Refused}
 
 -- the number of each refusal
-abbrev pub fitNumber : FitRefusal → ℕ
-fitNumber (Record r) = number r
-fitNumber (Differs o) = 17
-fitNumber Short = 18
+abbrev pub fit_number : FitRefusal → ℕ
+fit_number (Record r) = number r
+fit_number (Differs o) = 17
+fit_number Short = 18
 
 -- the instructions of a record's prologue, unless it has none, and of its epilogues in the order of their scopes
-unfoldable pub epiloguesItems : (code : List ℕ) → List (EpilogueOf Coded) → List Item
-epiloguesItems s [] = []
-epiloguesItems s (e ∷ es) = epilogueItems s e.start e.codes.list e.codes.endSize ++ epiloguesItems s es
+unfoldable pub epilogues_items : (code : List ℕ) → List (EpilogueOf Coded) → List Item
+epilogues_items s [] = []
+epilogues_items s (e ∷ es) = epilogue_items s e.start e.codes.list e.codes.end_size ++ epilogues_items s es
 
 abbrev pub items : (code : List ℕ) → (fragment : Bool) → View Coded → List Item
-items s f v = (if f then [] else prologueItems s v.codes.list) ++ epiloguesItems s v.epilogues
+items s f v = (if f then [] else prologue_items s v.codes.list) ++ epilogues_items s v.epilogues
 
 -- 17 for the first that does not fit
 abbrev pub answered : Compared → Fitted
@@ -36,13 +36,13 @@ answered C.Same = Fits
 answered (C.Differs o) = Refused (Differs o)
 
 -- 18 before 17 and after 7
-abbrev pub viewFitted : (code : List ℕ) → Shape → View Coded → Fitted
-viewFitted s sh v = if ltb (length s) sh.span then Refused Short else answered (compared (items s sh.fragment v))
+abbrev pub view_fitted : (code : List ℕ) → Shape → View Coded → Fitted
+view_fitted s sh v = if ltb (length s) sh.span then Refused Short else answered (compared (items s sh.fragment v))
 
 -- 6 and 7 by the record's view
-abbrev pub shapeFitted : (code : List ℕ) → Shape → Fitted
-shapeFitted s sh = either (view size_of codedAt sh) (λ r. Refused (Record r)) (viewFitted s sh)
+abbrev pub shape_fitted : (code : List ℕ) → Shape → Fitted
+shape_fitted s sh = either (view size_of coded_at sh) (λ r. Refused (Record r)) (view_fitted s sh)
 
 -- 1 of the .xdata, then 4 and 5
 unfoldable pub fitted : Lent → (word : ℕ) → (code : List ℕ) → Fitted
-fitted x w s = if fitXdata x then either (shape_at x w) (λ r. Refused (Record r)) (shapeFitted s) else Refused (Record UnfitInput)
+fitted x w s = if fit_xdata x then either (shape_at x w) (λ r. Refused (Record r)) (shape_fitted s) else Refused (Record UnfitInput)

@@ -1,3 +1,3 @@
 pub mod Fitting
 pub mod Exactly
-pub mod as_coded
+pub mod AsCoded

@@ -4,13 +4,13 @@ ghost use Rattle.std.specs.Prelude.{◌≡◌, true, ◌^◌, ◌≤◌, ◌<◌
 ghost use Rattle.words.specs.declared.Verdict.TheVariants.{Given};
 ghost use Rattle.words.specs.Answer.{verdict};
 ghost use Rattle.lent.specs.Lent.{lent};
-ghost use Rattle.codes.specs.as_coded.Rows.{rowNumbers};
-ghost use Rattle.record.specs.as_coded.Plan.{scopesFrom};
-ghost use Rattle.xdata.specs.Xdata.{fitXdata};
-ghost use Rattle.place.specs.Judged.{viewAt};
-ghost use Rattle.place.specs.as_coded.Look.{Ready};
-ghost use Rattle.fitting.specs.Fitting.{fitNumber, answered as answeredOf, fitted};
-ghost use Rattle.fitting.specs.as_coded.Passes.{openPass, scopePass, scopesPass, planPass, planFitted};
+ghost use Rattle.codes.specs.AsCoded.Rows.{row_numbers};
+ghost use Rattle.record.specs.AsCoded.Plan.{scopes_from};
+ghost use Rattle.xdata.specs.Xdata.{fit_xdata};
+ghost use Rattle.place.specs.Judged.{view_at};
+ghost use Rattle.place.specs.AsCoded.Look.{Ready};
+ghost use Rattle.fitting.specs.Fitting.{fit_number, answered as answered_of, fitted};
+ghost use Rattle.fitting.specs.AsCoded.Passes.{open_pass, scope_pass, scopes_pass, plan_pass, plan_fitted};
 
 use comparing::Compared;
 use place::{Measured, layout};
@@ -36,7 +36,7 @@ pub enum Fitted {
 
 // The number of a refusal (RULES 9).
 pub fn number(r: FitRefusal) -> u32
-    ensures { result ≡ fitNumber r }
+    ensures { result ≡ fit_number r }
 {
     match r {
         FitRefusal::Record(why) => words::number(why),
@@ -47,8 +47,8 @@ pub fn number(r: FitRefusal) -> u32
 
 // The prologue, if there is one.
 fn opened(t: &[u8; 256], codes: &[u8], fragment: bool, code: &[u8]) -> Compared
-    requires { (t.now ≡ rowNumbers) × (length codes.now ≤ 1020) }
-    ensures { result ≡ openPass code.now codes.now fragment }
+    requires { (t.now ≡ row_numbers) × (length codes.now ≤ 1020) }
+    ensures { result ≡ open_pass code.now codes.now fragment }
 {
     if fragment {
         return Compared::Same;
@@ -61,8 +61,8 @@ fn opened(t: &[u8; 256], codes: &[u8], fragment: bool, code: &[u8]) -> Compared
 
 // The epilogue of a scope, whose codes are measured again: it may end where the function does.
 fn scope(t: &[u8; 256], codes: &[u8], span: u64, e: Scope, code: &[u8]) -> Compared
-    requires { (t.now ≡ rowNumbers) × (length codes.now ≤ 1020) × (span < 2 ^ 32) }
-    ensures { result ≡ scopePass code.now codes.now span e }
+    requires { (t.now ≡ row_numbers) × (length codes.now ≤ 1020) × (span < 2 ^ 32) }
+    ensures { result ≡ scope_pass code.now codes.now span e }
 {
     let index = e.index;
     match layout::measure(t, codes, index) {
@@ -77,7 +77,7 @@ fn scope(t: &[u8; 256], codes: &[u8], span: u64, e: Scope, code: &[u8]) -> Compa
 // The epilogues in turn.
 fn scopes(t: &[u8; 256], codes: &[u8], plan: Plan, xdata: &[u8], code: &[u8]) -> Compared
     requires { Ready t.now codes.now plan xdata.now }
-    ensures { result ≡ scopesPass code.now codes.now plan.span (scopesFrom plan.scopes xdata.now 0 plan.count) }
+    ensures { result ≡ scopes_pass code.now codes.now plan.span (scopes_from plan.scopes xdata.now 0 plan.count) }
 {
     let span = layout::span_of(plan);
     let n = layout::count_of(plan);
@@ -100,7 +100,7 @@ fn scopes(t: &[u8; 256], codes: &[u8], plan: Plan, xdata: &[u8], code: &[u8]) ->
 // The prologue, and then the epilogues.
 fn compare(t: &[u8; 256], codes: &[u8], plan: Plan, xdata: &[u8], code: &[u8]) -> Compared
     requires { Ready t.now codes.now plan xdata.now }
-    ensures { result ≡ planPass code.now codes.now plan xdata.now }
+    ensures { result ≡ plan_pass code.now codes.now plan xdata.now }
 {
     let first = opened(t, codes, plan.fragment, code);
     match first {
@@ -110,7 +110,7 @@ fn compare(t: &[u8; 256], codes: &[u8], plan: Plan, xdata: &[u8], code: &[u8]) -
 }
 
 fn answered(c: Compared) -> Fitted
-    ensures { result ≡ answeredOf c }
+    ensures { result ≡ answered_of c }
 {
     match c {
         Compared::Same => Fitted::Fits,
@@ -121,7 +121,7 @@ fn answered(c: Compared) -> Fitted
 // 18 and 17, by a record's plan and code bytes.
 fn check_plan(t: &[u8; 256], codes: &[u8], plan: Plan, xdata: &[u8], code: &[u8]) -> Fitted
     requires { Ready t.now codes.now plan xdata.now }
-    ensures { result ≡ planFitted code.now codes.now plan xdata.now }
+    ensures { result ≡ plan_fitted code.now codes.now plan xdata.now }
 {
     if (code.len() as u64) < layout::span_of(plan) {
         return Fitted::Refused(FitRefusal::Short);
@@ -131,7 +131,7 @@ fn check_plan(t: &[u8; 256], codes: &[u8], plan: Plan, xdata: &[u8], code: &[u8]
 
 // The same for word 1 of a .pdata record that 4 to 7 do not refuse.
 fn check_read(rva: u32, xdata: &[u8], word: u32, code: &[u8]) -> Fitted
-    requires { (fitXdata (lent rva xdata.now) ≡ true) × (verdict (viewAt (lent rva xdata.now) word) ≡ Given) }
+    requires { (fit_xdata (lent rva xdata.now) ≡ true) × (verdict (view_at (lent rva xdata.now) word) ≡ Given) }
     ensures { result ≡ fitted (lent rva xdata.now) word code.now }
 {
     let t = codes::row_table();

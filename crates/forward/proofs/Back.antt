@@ -52,7 +52,7 @@ SpAt (from y ∷ cs) a b = Unit {0}
 SpAt (peek ∷ cs) a b = b ≡ a
 
 pub record Keeps (cs : List Op) (s : St) (b : Seen) (m : ℕ → ℕ) : Type 0 where
-  pub spAt : SpAt cs s.sp b.sp
+  pub sp_at : SpAt cs s.sp b.sp
   pub regs : (x : ℕ) → Need cs x → b.r x ≡ s.r x
   pub words : Kept m s.m cs s.sp
 
@@ -96,12 +96,12 @@ module _ (base : ℕ) (e : St) (al : e.sp % 4 ≡ 0) where
       → Inv base e cs (does m c b) m
   one (skip n) cs s t b m x f k near =
       let i = exec-fits x al in
-      let p : b.sp + 4 * n ≡ s.sp = ap (λ a. a + 4 * n) k.spAt ∙ f.sp in
+      let p : b.sp + 4 * n ≡ s.sp = ap (λ a. a + 4 * n) k.sp_at ∙ f.sp in
       record {
         s = s;
         exec = x;
         keeps = record {
-          spAt = sp-at cs p;
+          sp_at = sp-at cs p;
           regs = λ y w. k.regs y w ∙ f.r y tt w;
           words = kept_frame m t.m s.m cs s.sp f.above (subst (λ a. Kept m t.m cs a) f.sp k.words);
         };
@@ -109,15 +109,15 @@ module _ (base : ℕ) (e : St) (al : e.sp % 4 ≡ 0) where
       }
   one (load z) cs s t b m x f k near =
       let i = exec-fits x al in
-      let p : b.sp + width z ≡ s.sp = ap (λ a. a + width z) k.spAt ∙ f.sp in
+      let p : b.sp + width z ≡ s.sp = ap (λ a. a + width z) k.sp_at ∙ f.sp in
       record {
         s = s;
         exec = x;
         keeps = record {
-          spAt = sp-at cs p;
+          sp_at = sp-at cs p;
           regs = λ y w.
               upd-cases (λ u. u ≡ s.r y) b.r z (val z m b.sp) y
-              (λ q. ap (val z m) k.spAt ∙ k.words.0 (subst (Need cs) q w) ∙ f.at (subst (Need cs) q w) ∙ ap s.r (sym q))
+              (λ q. ap (val z m) k.sp_at ∙ k.words.0 (subst (Need cs) q w) ∙ f.at (subst (Need cs) q w) ∙ ap s.r (sym q))
               (λ q. k.regs y (q, w) ∙ f.r y q w);
           words = kept_frame m t.m s.m cs s.sp f.above (subst (λ a. Kept m t.m cs a) f.sp k.words.1);
         };
@@ -131,7 +131,7 @@ module _ (base : ℕ) (e : St) (al : e.sp % 4 ≡ 0) where
         s = s;
         exec = x;
         keeps = record {
-          spAt = sp-at cs p;
+          sp_at = sp-at cs p;
           regs = λ y w. k.regs y (inr w) ∙ f.r y (λ q. f.at.1 (subst (Need cs) q w)) w;
           words = kept_frame m t.m s.m cs s.sp f.above (subst (λ a. Kept m t.m cs a) here k.words);
         };
@@ -163,4 +163,4 @@ pub inv-entry : {base : ℕ} {e : St} {b : Seen} {m : ℕ → ℕ} → Inv base 
 inv-entry {e} {b} {m} v = go v.exec v.keeps
   where
     go : {s : St} → Exec e [] s → Keeps [] s b m → Entry e b
-    go done k = record { sp = k.spAt; r = k.regs }
+    go done k = record { sp = k.sp_at; r = k.regs }

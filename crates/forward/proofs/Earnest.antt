@@ -9,14 +9,14 @@ use mathlib.Core.Logic.{◌≢◌, inl, inr}
 use lib.Dec.{ltb, eqb}
 use native.Mathlib.Omega.{arith}
 use borrow.Author.Tests.{ltb-true, eqb-false}
-use Rattle.lent.specs.Lent.{Lent, end, wordAt}
+use Rattle.lent.specs.Lent.{Lent, end, word_at}
 use Rattle.words.specs.declared.Place.TheVariants.{Prologue, Body, Epilogue}
 use mathlib.Core.Option.{some}
 use Rattle.words.specs.Answer.{ok, if◌then◌else◌}
 use Rattle.unwinding.specs.Shape.{Shape}
 use Rattle.unwinding.specs.View.{View}
 use Rattle.codes.specs.declared.Code.{Code}
-use Rattle.machine.specs.Registers.{setReg, setSp}
+use Rattle.machine.specs.Registers.{set_reg, set_sp}
 use Rattle.pdata.specs.Pdata.{find}
 use Rattle.record.specs.Record.{shape_of}
 use Rattle.pdata.specs.declared.Entry.{Entry}
@@ -45,33 +45,33 @@ use Rattle.forward.proofs.Storing.{store, store-outside, word-store}
 use Rattle.forward.proofs.Real.{Solid, set-real, set-sp-real, store-real}
 use Rattle.forward.proofs.Executing.{standing, done-place, after, after-solid}
 use Rattle.forward.proofs.Reaching.{words_same, idle, solid-of, plain_of, stood, less-room, met}
-use Rattle.forward.proofs.Examples.{Tables, inputs, own, shape, views, known, Entered, in-onward, in-used, in-leaving, prologue-run, up2, up4, nop, nop1, pop45lr, pop4511lr, pop4to9lr, spR7, rx7, plain, homes, chain, framed, handles}
+use Rattle.forward.proofs.Examples.{Tables, inputs, own, shape, views, known, Entered, in-onward, in-used, in-leaving, prologue-run, up2, up4, nop, nop1, pop45lr, pop4511lr, pop4to9lr, sp_r7, rx7, plain, homes, chain, framed, handles}
 
 -- ---- a register written
 abbrev writes : (x v : ℕ) → State → State
 writes x v s =
-    let w : Whole (setReg s.regs x v) = whole_reg x v s.whole in
-    record { regs = setReg s.regs x v; stack = s.stack; whole = record { r = w.r; d = w.d } }
+    let w : Whole (set_reg s.regs x v) = whole_reg x v s.whole in
+    record { regs = set_reg s.regs x v; stack = s.stack; whole = record { r = w.r; d = w.d } }
 
 -- r0-r12 or LR
 abbrev Integer : ℕ → Type 0
 Integer x = (ltb x 15 ≡ true) × (eqb x 13 ≡ false)
 
-written : (x v : ℕ) (s : State) → Integer x → value (setReg s.regs x v) ≡ upd (value s.regs) x v
+written : (x v : ℕ) (s : State) → Integer x → value (set_reg s.regs x v) ≡ upd (value s.regs) x v
 written x v s i = value-reg s.regs x v s.whole (ltb-true x 15 i.0) (eqb-false x 13 i.1)
 
-writes-same : (x v : ℕ) (s : State) (y : ℕ) → Integer x → y ≢ x → value (setReg s.regs x v) y ≡ value s.regs y
+writes-same : (x v : ℕ) (s : State) (y : ℕ) → Integer x → y ≢ x → value (set_reg s.regs x v) y ≡ value s.regs y
 writes-same x v s y i q =
     ap (λ f. f y) (written x v s i) ∙ upd-cases (λ z. z ≡ value s.regs y) (value s.regs) x v y (λ p. absurd (q p)) (λ p. refl)
 
-writes-it : (x v : ℕ) (s : State) → Integer x → value (setReg s.regs x v) x ≡ v
+writes-it : (x v : ℕ) (s : State) → Integer x → value (set_reg s.regs x v) x ≡ v
 writes-it x v s i = ap (λ f. f x) (written x v s i) ∙ upd-cases (λ z. z ≡ v) (value s.regs) x v x (λ p. refl) (λ p. absurd (p refl))
 
 -- ---- SP lowered
 abbrev lowered : ℕ → State → State
 lowered n s =
     let w : Whole s.regs = s.whole in
-    record { regs = setSp s.regs (s.regs.sp - n); stack = s.stack; whole = record { r = w.r; d = w.d } }
+    record { regs = set_sp s.regs (s.regs.sp - n); stack = s.stack; whole = record { r = w.r; d = w.d } }
 
 -- ---- two words written at SP
 abbrev puts : (w₀ w₁ : ℕ) → State → State
@@ -81,7 +81,7 @@ puts w₀ w₁ s =
 
 -- they stand there
 abbrev pub AtSp : (w₀ w₁ : ℕ) → State → Type 0
-AtSp w₀ w₁ s = (wordAt s.stack s.regs.sp ≡ w₀) × (wordAt s.stack (s.regs.sp + 4) ≡ w₁)
+AtSp w₀ w₁ s = (word_at s.stack s.regs.sp ≡ w₀) × (word_at s.stack (s.regs.sp + 4) ≡ w₁)
 
 record Put (w₀ w₁ : ℕ) (s : State) : Type 0 where
   outside : Outside s.regs.sp (s.regs.sp + 8) s.stack (puts w₀ w₁ s).stack
@@ -107,7 +107,7 @@ puts-bytes w₀ w₁ s x b₀ b₁ =
 held-above : {lo hi : ℕ} {k k' : Lent} → Outside lo hi k k' → (a x : ℕ) → hi ≤ a → held k' a x ≡ held k a x
 held-above {lo} {hi} {k} {k'} o a x h = go (ltb x 16)
   where
-    go : (t : Bool) → (if t then wordAt k' a else wordAt k' a + 2 ^ 32 * wordAt k' (a + 4)) ≡ (if t then wordAt k a else wordAt k a + 2 ^ 32 * wordAt k (a + 4))
+    go : (t : Bool) → (if t then word_at k' a else word_at k' a + 2 ^ 32 * word_at k' (a + 4)) ≡ (if t then word_at k a else word_at k a + 2 ^ 32 * word_at k (a + 4))
     go true = outside_above o a h
     go false = ap₂ (λ v w. v + 2 ^ 32 * w) (outside_above o a h) (outside_above o (a + 4) (omega arith))
 
@@ -124,10 +124,10 @@ abbrev pub cs : List Code
 cs = up2 ∷ pop45lr ∷ []
 
 -- no rX
-no-rX : (x : ℕ) → RX cs x → ⊥
-no-rX x (inl q) = q
-no-rX x (inr (inl q)) = q
-no-rX x (inr (inr q)) = q
+no-r_x : (x : ℕ) → RX cs x → ⊥
+no-r_x x (inl q) = q
+no-r_x x (inr (inl q)) = q
+no-r_x x (inr (inr q)) = q
 
 pub record Values : Type 0 where
   pub r₄ : ℕ
@@ -173,7 +173,7 @@ overwritten v s pc b h =
       long = o.long;
       words = (tt, words-above (Wanted cs) o (s.regs.sp + 8) (pop45lr ∷ []) (omega arith));
       sp = refl;
-      rX = λ x q. absurd (no-rX x q);
+      r_x = λ x q. absurd (no-r_x x q);
       unsaved = λ x l n.
           writes-same 14 v.lr s₂ x (refl, refl) (λ q. n (inr (inl (inr (inr (inl q))))))
           ∙ writes-same 5 v.r₅ s₁ x (refl, refl) (λ q. n (inr (inl (inr (inl q)))))
@@ -267,7 +267,7 @@ chain-8-set e v b h =
     (next nop d (record {
       stack = refl;
       sp = refl;
-      rX = λ x q. absurd (no x q);
+      r_x = λ x q. absurd (no x q);
       unsaved = λ x l z. writes-same 11 v s x (refl, refl) (λ q. z (inl (inr (inr (inl q)))));
     }))
     refl
@@ -284,7 +284,7 @@ chain-8-set e v b h =
 abbrev pub idles : Tables
 idles = record { word = 0x00003000; xdata = (0x10200010 ∷ 0xFDD502FB ∷ []) }
 
-ran-none : {rX : ℕ → Type 0} {s t : State} → Ran rX [] s t → t ≡ s
+ran-none : {r_x : ℕ → Type 0} {s t : State} → Ran r_x [] s t → t ≡ s
 ran-none Leaving.none = refl
 
 pub idles-1A-set : (e : State) (v : ℕ) → v < 2 ^ 32 → Entered e → (r : Reaches (inputs idles) e 0x1A Epilogue cs) × (value r.now.regs 12 ≡ v)
@@ -308,11 +308,11 @@ idles-1A-set e v b h =
   where
     no : (x : ℕ) → RX (nop1 ∷ cs) x → ⊥
     no x (inl q) = q
-    no x (inr q) = no-rX x q
+    no x (inr q) = no-r_x x q
 
 -- ---- SP four words lower after mov r7,sp: in the body, and in the epilogue after mov sp,r7
 abbrev pub moving : List Code
-moving = spR7 ∷ pop4to9lr ∷ up4 ∷ []
+moving = sp_r7 ∷ pop4to9lr ∷ up4 ∷ []
 
 abbrev moved : (pc : ℕ) → State → State
 moved pc e = standing pc (lowered 16 (after moving e))
@@ -333,7 +333,7 @@ moved-past e h pc =
           long = refl;
           words = words_same (Wanted moving) left.stack left.regs.sp moving;
           sp = (omega (arith, fits.1, p.sp, p.base, h.roomy.low), omega (arith, p.sp, p.base, h.roomy.low), omega arith);
-          rX = λ x q. refl;
+          r_x = λ x q. refl;
           unsaved = λ x q z. refl;
         };
       },
@@ -355,11 +355,11 @@ framed-A-moved e h =
 
 pub framed-142-moved :
     (e : State) → Entered e
-    → (start : State) × (start.regs.sp + 60 ≡ e.regs.sp) × From framed e start 0x142 (spR7 ∷ []) (pop4to9lr ∷ up4 ∷ [])
+    → (start : State) × (start.regs.sp + 60 ≡ e.regs.sp) × From framed e start 0x142 (sp_r7 ∷ []) (pop4to9lr ∷ up4 ∷ [])
 unfolding opened
 framed-142-moved e h =
     let p = moved-past e h 0x00401140 in
-    let r = in-leaving framed e h (moved 0x00401140 e) (moved 0x00401140 e) [] (spR7 ∷ []) (pop4to9lr ∷ up4 ∷ []) refl here (full refl refl) refl refl (omega arith) p.0
+    let r = in-leaving framed e h (moved 0x00401140 e) (moved 0x00401140 e) [] (sp_r7 ∷ []) (pop4to9lr ∷ up4 ∷ []) refl here (full refl refl) refl refl (omega arith) p.0
     Leaving.none refl (moved_plain e 0x00401140 (omega arith)) in
     (moved 0x00401140 e, p.1, r)
 

@@ -19,13 +19,13 @@ use Rattle.unwinding.specs.Shape.{Shape}
 use Rattle.unwinding.specs.CodeList.{total}
 use Rattle.unwinding.specs.View.{EpilogueOf, View, view}
 use Rattle.unwinding.specs.declared.Scope.{Scope}
-use Rattle.codes.specs.Code.{size, codesAt}
+use Rattle.codes.specs.Code.{size, codes_at}
 use Rattle.codes.specs.Condition.{always}
 use Rattle.codes.specs.declared.Code.{Code}
 use Rattle.codes.specs.declared.Undo.{Undo}
 use Rattle.codes.specs.declared.Undo.TheVariants.{Up, Pop, SpFrom, Vpop, LoadLr, Nothing}
 use Rattle.pdata.specs.Pdata.{find}
-use Rattle.xdata.specs.Xdata.{fitXdata}
+use Rattle.xdata.specs.Xdata.{fit_xdata}
 use Rattle.record.specs.Record.{shape_of}
 use Rattle.pdata.specs.declared.Entry.{Entry}
 use Rattle.frame.specs.Frame.{Inputs}
@@ -59,14 +59,14 @@ abbrev pub shape : Tables → Shape
 shape k = or_else (shape_of (inputs k).xdata (own k)) (record { span = 0; codes = []; fragment = false; scopes = []; handler = 0 })
 
 abbrev pub views : Tables → View Code
-views k = or_else (view size codesAt (shape k)) (record { codes = record { list = []; endSize = 0 }; prologue = 0; epilogues = [] })
+views k = or_else (view size codes_at (shape k)) (record { codes = record { list = []; end_size = 0 }; prologue = 0; epilogues = [] })
 
 -- what the frame's tests come to at an offset: they pass, and this is the record
 abbrev pub looks : Tables → ℕ → Bool × Res (Option Entry) × Res Shape × Res (View Code) × ℕ
 looks k o =
     let t : Inputs = inputs k in
     let pc : ℕ = 0x00401000 + o in
-    (fitXdata t.xdata, find t.image t.pdata pc, shape_of t.xdata (own k), view size codesAt (shape k), even pc - t.image - (own k).start)
+    (fit_xdata t.xdata, find t.image t.pdata pc, shape_of t.xdata (own k), view size codes_at (shape k), even pc - t.image - (own k).start)
 
 abbrev pub Looks : Tables → ℕ → Type 0
 Looks k o = looks k o ≡ (true, ok (some (own k)), ok (shape k), ok (views k), o)
@@ -203,8 +203,8 @@ abbrev pub pop45 : Code
 pop45 = code (Pop (2 ^ 4 + 2 ^ 5)) 1
 
 -- a pop of LR has 32 bits (RULES 4.12)
-abbrev pub pop45lrWide : Code
-pop45lrWide = code (Pop (2 ^ 4 + 2 ^ 5 + 2 ^ 14)) 2
+abbrev pub pop45lr_wide : Code
+pop45lr_wide = code (Pop (2 ^ 4 + 2 ^ 5 + 2 ^ 14)) 2
 
 abbrev pub pop45lr : Code
 pop45lr = code (Pop (2 ^ 4 + 2 ^ 5 + 2 ^ 14)) 1
@@ -233,8 +233,8 @@ lr5 = code (LoadLr (stack_words 5)) 2
 abbrev pub lr2 : Code
 lr2 = code (LoadLr (stack_words 2)) 2
 
-abbrev pub spR7 : Code
-spR7 = code (SpFrom 7) 1
+abbrev pub sp_r7 : Code
+sp_r7 = code (SpFrom 7) 1
 
 -- ---- push {r4,r5,lr}; sub sp,#8, and add; pop {r4,r5,pc}
 abbrev pub plain : Tables
@@ -423,23 +423,23 @@ framed = record { word = 0x00003000; xdata = (0x102000A5 ∷ 0xFD04DDC7 ∷ []) 
 
 pub framed-2 : (e : State) → Entered e → Reaches (inputs framed) e 2 Prologue (up4 ∷ [])
 unfolding opened
-framed-2 e h = in-prologue framed e h (spR7 ∷ pop4to9lr ∷ []) (up4 ∷ []) refl refl (tt, tt) (omega arith)
+framed-2 e h = in-prologue framed e h (sp_r7 ∷ pop4to9lr ∷ []) (up4 ∷ []) refl refl (tt, tt) (omega arith)
 
 pub framed-6 : (e : State) → Entered e → Reaches (inputs framed) e 6 Prologue (pop4to9lr ∷ up4 ∷ [])
 unfolding opened
-framed-6 e h = in-prologue framed e h (spR7 ∷ []) (pop4to9lr ∷ up4 ∷ []) refl refl (tt, (tt, tt)) (omega arith)
+framed-6 e h = in-prologue framed e h (sp_r7 ∷ []) (pop4to9lr ∷ up4 ∷ []) refl refl (tt, (tt, tt)) (omega arith)
 
-pub framed-8 : (e : State) → Entered e → Reaches (inputs framed) e 0x8 Body (spR7 ∷ pop4to9lr ∷ up4 ∷ [])
+pub framed-8 : (e : State) → Entered e → Reaches (inputs framed) e 0x8 Body (sp_r7 ∷ pop4to9lr ∷ up4 ∷ [])
 unfolding opened
 framed-8 e h = in_body framed e h 0x8 refl (inl (omega arith), tt) (rx7, (tt, (tt, tt))) (omega arith)
 
 pub framed-142 : (e : State) → Entered e → Reaches (inputs framed) e 0x142 Epilogue (pop4to9lr ∷ up4 ∷ [])
 unfolding opened
-framed-142 e h = in-epilogue framed e h (spR7 ∷ []) (pop4to9lr ∷ up4 ∷ []) refl here (full refl refl) refl refl (rx7, (tt, (tt, tt))) (omega arith)
+framed-142 e h = in-epilogue framed e h (sp_r7 ∷ []) (pop4to9lr ∷ up4 ∷ []) refl here (full refl refl) refl refl (rx7, (tt, (tt, tt))) (omega arith)
 
 pub framed-148 : (e : State) → Entered e → Reaches (inputs framed) e 0x148 Epilogue []
 unfolding opened
-framed-148 e h = in-epilogue framed e h (spR7 ∷ pop4to9lr ∷ up4 ∷ []) [] refl here (full refl refl) refl refl (rx7, (tt, (tt, tt))) (omega arith)
+framed-148 e h = in-epilogue framed e h (sp_r7 ∷ pop4to9lr ∷ up4 ∷ []) [] refl here (full refl refl) refl refl (rx7, (tt, (tt, tt))) (omega arith)
 
 -- ---- E=0: a scope with condition always and index 0
 abbrev pub scoped : Tables
@@ -525,13 +525,13 @@ pub branch-4 : (e : State) → Entered e → Reaches (inputs branch) e 0x4 Body 
 unfolding opened
 branch-4 e h = in_body branch e h 0x4 refl (inl (omega arith), tt) (tt, (tt, tt)) (omega arith)
 
-pub branch-18 : (e : State) → Entered e → Reaches (inputs branch) e 0x18 Epilogue (pop45lrWide ∷ [])
+pub branch-18 : (e : State) → Entered e → Reaches (inputs branch) e 0x18 Epilogue (pop45lr_wide ∷ [])
 unfolding opened
-branch-18 e h = in-epilogue branch e h (up2 ∷ []) (pop45lrWide ∷ []) refl here (packed (λ q. omega arith) (λ d. refl)) refl refl (tt, (tt, tt)) (omega arith)
+branch-18 e h = in-epilogue branch e h (up2 ∷ []) (pop45lr_wide ∷ []) refl here (packed (λ q. omega arith) (λ d. refl)) refl refl (tt, (tt, tt)) (omega arith)
 
 pub branch-1C : (e : State) → Entered e → Reaches (inputs branch) e 0x1C Epilogue []
 unfolding opened
-branch-1C e h = in-epilogue branch e h (up2 ∷ pop45lrWide ∷ []) [] refl here (packed (λ q. omega arith) (λ d. refl)) refl refl (tt, (tt, tt)) (omega arith)
+branch-1C e h = in-epilogue branch e h (up2 ∷ pop45lr_wide ∷ []) [] refl here (packed (λ q. omega arith) (λ d. refl)) refl refl (tt, (tt, tt)) (omega arith)
 
 -- ---- Ret 3: no epilogue
 abbrev pub never : Tables
@@ -546,20 +546,20 @@ unfolding opened
 never-1E e h = in_body never e h 0x1E refl tt (tt, (tt, tt)) (omega arith)
 
 -- ---- H without L: the home words are taken back by an add
-abbrev pub homeLeaf : Tables
-homeLeaf = record { word = 0x0081A041; xdata = [] }
+abbrev pub home_leaf : Tables
+home_leaf = record { word = 0x0081A041; xdata = [] }
 
-pub homeLeaf-4 : (e : State) → Entered e → Reaches (inputs homeLeaf) e 0x4 Prologue (pop45 ∷ up4 ∷ [])
+pub home_leaf-4 : (e : State) → Entered e → Reaches (inputs home_leaf) e 0x4 Prologue (pop45 ∷ up4 ∷ [])
 unfolding opened
-homeLeaf-4 e h = in-prologue homeLeaf e h (up2 ∷ []) (pop45 ∷ up4 ∷ []) refl refl (tt, (tt, tt)) (omega arith)
+home_leaf-4 e h = in-prologue home_leaf e h (up2 ∷ []) (pop45 ∷ up4 ∷ []) refl refl (tt, (tt, tt)) (omega arith)
 
-pub homeLeaf-6 : (e : State) → Entered e → Reaches (inputs homeLeaf) e 0x6 Body (up2 ∷ pop45 ∷ up4 ∷ [])
+pub home_leaf-6 : (e : State) → Entered e → Reaches (inputs home_leaf) e 0x6 Body (up2 ∷ pop45 ∷ up4 ∷ [])
 unfolding opened
-homeLeaf-6 e h = in_body homeLeaf e h 0x6 refl (inl (omega arith), tt) (tt, (tt, (tt, tt))) (omega arith)
+home_leaf-6 e h = in_body home_leaf e h 0x6 refl (inl (omega arith), tt) (tt, (tt, (tt, tt))) (omega arith)
 
-pub homeLeaf-1C : (e : State) → Entered e → Reaches (inputs homeLeaf) e 0x1C Epilogue (up4 ∷ [])
+pub home_leaf-1C : (e : State) → Entered e → Reaches (inputs home_leaf) e 0x1C Epilogue (up4 ∷ [])
 unfolding opened
-homeLeaf-1C e h = in-epilogue homeLeaf e h (up2 ∷ pop45 ∷ []) (up4 ∷ []) refl here (packed (λ q. omega arith) (λ d. refl)) refl refl (tt, (tt, (tt, tt))) (omega arith)
+home_leaf-1C e h = in-epilogue home_leaf e h (up2 ∷ pop45 ∷ []) (up4 ∷ []) refl here (packed (λ q. omega arith) (λ d. refl)) refl refl (tt, (tt, (tt, tt))) (omega arith)
 
 -- ---- 128 words: sub and add of 32 bits
 abbrev pub big : Tables

@@ -7,13 +7,13 @@ use mathlib.Core.List.{List, [], ◌∷◌, ◌++◌}
 use lib.ListN.{length}
 use native.Mathlib.Omega.{arith}
 use Rattle.lent.specs.Lent.{Lent, end}
-use Rattle.words.specs.Units.{stackBytes}
+use Rattle.words.specs.Units.{stack_bytes}
 use Rattle.unwinding.specs.CodeList.{total}
 use Rattle.codes.specs.Code.{size}
 use Rattle.codes.specs.declared.Code.{Code}
 use Rattle.codes.specs.declared.Undo.{Undo}
 use Rattle.codes.specs.declared.Undo.TheVariants.{Up, Pop, SpFrom, Vpop, LoadLr, Nothing}
-use Rattle.machine.specs.Registers.{setReg, setSp, setPc}
+use Rattle.machine.specs.Registers.{set_reg, set_sp, set_pc}
 use Rattle.machine.specs.declared.Regs.{Regs}
 use Rattle.forward.specs.Registers.{value}
 use Rattle.forward.specs.Saving.{saves, bytes, falls}
@@ -23,24 +23,24 @@ use Rattle.forward.specs.Met.{FineOne, Fine, room, Went, stays, goes}
 use Rattle.forward.proofs.Ops.{upd-cases}
 use Rattle.forward.proofs.Writing.{whole_reg, value-reg}
 use Rattle.forward.proofs.Real.{Solid, set-sp-real, set-real, store-real, store-all-real}
-use Rattle.forward.proofs.Storing.{store, storeAll, store-outside, word-store, store-all-outside, store-all-stored}
+use Rattle.forward.proofs.Storing.{store, store_all, store-outside, word-store, store-all-outside, store-all-stored}
 use Rattle.forward.proofs.Memory.{outside-same, outside-more}
 
 regs_after : Undo → Regs → Regs
-regs_after (Up n) g = setSp g (g.sp - stackBytes n)
-regs_after (Pop l) g = setSp g (g.sp - bytes (saves (Pop l)))
-regs_after (SpFrom x) g = setReg g x g.sp
-regs_after (Vpop s e) g = setSp g (g.sp - bytes (saves (Vpop s e)))
-regs_after (LoadLr n) g = setSp g (g.sp - stackBytes n)
+regs_after (Up n) g = set_sp g (g.sp - stack_bytes n)
+regs_after (Pop l) g = set_sp g (g.sp - bytes (saves (Pop l)))
+regs_after (SpFrom x) g = set_reg g x g.sp
+regs_after (Vpop s e) g = set_sp g (g.sp - bytes (saves (Vpop s e)))
+regs_after (LoadLr n) g = set_sp g (g.sp - stack_bytes n)
 regs_after Nothing g = g
 
-stackAfter : Undo → Regs → Lent → Lent
-stackAfter (Up n) g k = k
-stackAfter (Pop l) g k = storeAll k (g.sp - bytes (saves (Pop l))) (saves (Pop l)) g
-stackAfter (SpFrom x) g k = k
-stackAfter (Vpop s e) g k = storeAll k (g.sp - bytes (saves (Vpop s e))) (saves (Vpop s e)) g
-stackAfter (LoadLr n) g k = store k (g.sp - stackBytes n) g.lr
-stackAfter Nothing g k = k
+stack_after : Undo → Regs → Lent → Lent
+stack_after (Up n) g k = k
+stack_after (Pop l) g k = store_all k (g.sp - bytes (saves (Pop l))) (saves (Pop l)) g
+stack_after (SpFrom x) g k = k
+stack_after (Vpop s e) g k = store_all k (g.sp - bytes (saves (Vpop s e))) (saves (Vpop s e)) g
+stack_after (LoadLr n) g k = store k (g.sp - stack_bytes n) g.lr
+stack_after Nothing g k = k
 
 whole-after : (u : Undo) {g : Regs} → Whole g → Whole (regs_after u g)
 unfolding regs_after
@@ -55,13 +55,13 @@ whole-after Nothing w = w
 abbrev pub standing : ℕ → State → State
 standing a s =
     let w : Whole s.regs = s.whole in
-    record { regs = setPc s.regs a; stack = s.stack; whole = record { r = w.r; d = w.d } }
+    record { regs = set_pc s.regs a; stack = s.stack; whole = record { r = w.r; d = w.d } }
 
 -- one instruction, after which the pc is past it
 exec : Code → State → State
 exec c s =
     let w : Whole (regs_after c.undo s.regs) = whole-after c.undo s.whole in
-    record { regs = setPc (regs_after c.undo s.regs) (s.regs.pc + size c); stack = stackAfter c.undo s.regs s.stack; whole = record { r = w.r; d = w.d } }
+    record { regs = set_pc (regs_after c.undo s.regs) (s.regs.pc + size c); stack = stack_after c.undo s.regs s.stack; whole = record { r = w.r; d = w.d } }
 
 pub after : List Code → State → State
 after [] s = s
@@ -71,13 +71,13 @@ after (c ∷ cs) s = exec c (after cs s)
 pushes-of :
     (xs : List ℕ) (s t : State) → s.stack.base + bytes xs ≤ s.regs.sp → s.regs.sp ≤ end s.stack → t.regs.sp ≡ s.regs.sp - bytes xs
     → SameRest s.regs t.regs
-    → t.stack ≡ storeAll s.stack (s.regs.sp - bytes xs) xs s.regs
+    → t.stack ≡ store_all s.stack (s.regs.sp - bytes xs) xs s.regs
     → Pushes xs s t
 pushes-of xs s t low high p r k =
     let a : ℕ = s.regs.sp - bytes xs in
     let b : s.stack.base ≤ a = omega arith in
     let h : a + bytes xs ≤ end s.stack = omega arith in
-    let o : Outside a s.regs.sp s.stack (storeAll s.stack a xs s.regs) = outside-more (store-all-outside xs s.stack a s.regs b h) (omega arith) (omega arith) in
+    let o : Outside a s.regs.sp s.stack (store_all s.stack a xs s.regs) = outside-more (store-all-outside xs s.stack a s.regs b h) (omega arith) (omega arith) in
     record {
       falls = record { sp = omega arith; rest = r; stack = rw (p, k) o };
       stored = rw (p, k) (store-all-stored xs s.stack a s.regs b h);
@@ -86,7 +86,7 @@ pushes-of xs s t low high p r k =
 does-exec :
     (cs : List Code) (u : Undo) (n : ℕ) (s : State) → FineOne cs u → s.stack.base + falls u ≤ s.regs.sp → s.regs.sp ≤ end s.stack
     → Does cs u s (exec (record { undo = u; size = record { 0 = n } }) s)
-unfolding exec regs_after stackAfter whole-after
+unfolding exec regs_after stack_after whole-after
 does-exec cs (Up m) n s f low high =
     record { sp = omega arith; rest = record { r = refl; lr = refl; d = refl }; stack = outside-same _ _ s.stack }
 does-exec cs (Pop l) n s f low high = pushes-of (saves (Pop l)) s (exec (record { undo = Pop l; size = record { 0 = n } }) s) low high refl (record { r = refl; lr = refl; d = refl }) refl
@@ -94,7 +94,7 @@ does-exec cs (SpFrom x) n s f low high =
     let e = value-reg s.regs x s.regs.sp s.whole f.named f.other in
     record {
       sp = refl;
-      rX = ap (λ v. v x) e ∙ upd-cases (λ v. v ≡ s.regs.sp) (value s.regs) x s.regs.sp x (λ q. refl) (λ q. absurd (q refl));
+      r_x = ap (λ v. v x) e ∙ upd-cases (λ v. v ≡ s.regs.sp) (value s.regs) x s.regs.sp x (λ q. refl) (λ q. absurd (q refl));
       rest = λ y q. ap (λ v. v y) e ∙ upd-cases (λ v. v ≡ value s.regs y) (value s.regs) x s.regs.sp y (λ z. absurd (q z)) (λ z. refl);
       stack = refl;
       once = λ y q. absurd (f.once y q);
@@ -103,13 +103,13 @@ does-exec cs (SpFrom x) n s f low high =
 does-exec cs (Vpop a b) n s f low high =
     pushes-of (saves (Vpop a b)) s (exec (record { undo = Vpop a b; size = record { 0 = n } }) s) low high refl (record { r = refl; lr = refl; d = refl }) refl
 does-exec cs (LoadLr m) n s f low high =
-    let a : ℕ = s.regs.sp - stackBytes m in
+    let a : ℕ = s.regs.sp - stack_bytes m in
     record {
       falls = record { sp = omega arith; rest = record { r = refl; lr = refl; d = refl }; stack = store-outside s.stack a s.regs.lr (omega arith) };
       stored = word-store s.stack a s.regs.lr (omega arith) (omega arith);
       some = omega arith;
     }
-does-exec cs Nothing n s f low high = record { stack = refl; sp = refl; rX = λ x q. refl; unsaved = λ x q z. refl }
+does-exec cs Nothing n s f low high = record { stack = refl; sp = refl; r_x = λ x q. refl; unsaved = λ x q z. refl }
 
 -- ---- a whole list
 pub record Place (e t : State) (down : ℕ) : Type 0 where
@@ -170,9 +170,9 @@ runs before s (c ∷ cs) f low high =
     }
 
 -- ---- and it leaves registers of their sizes and bytes
-solid-exec : (u : Undo) (g : Regs) (k : Lent) → Solid g k → Solid (regs_after u g) (stackAfter u g k)
-unfolding regs_after stackAfter
-solid-exec (Up n) g k w = record { real = set-sp-real (g.sp - stackBytes n) w.real; bytes = w.bytes; sp = omega (arith, w.sp) }
+solid-exec : (u : Undo) (g : Regs) (k : Lent) → Solid g k → Solid (regs_after u g) (stack_after u g k)
+unfolding regs_after stack_after
+solid-exec (Up n) g k w = record { real = set-sp-real (g.sp - stack_bytes n) w.real; bytes = w.bytes; sp = omega (arith, w.sp) }
 solid-exec (Pop l) g k w =
     let a : ℕ = g.sp - bytes (saves (Pop l)) in
     record { real = set-sp-real a w.real; bytes = store-all-real (saves (Pop l)) k a g w.bytes w.real; sp = omega (arith, w.sp) }
@@ -181,7 +181,7 @@ solid-exec (Vpop s e) g k w =
     let a : ℕ = g.sp - bytes (saves (Vpop s e)) in
     record { real = set-sp-real a w.real; bytes = store-all-real (saves (Vpop s e)) k a g w.bytes w.real; sp = omega (arith, w.sp) }
 solid-exec (LoadLr n) g k w =
-    let a : ℕ = g.sp - stackBytes n in
+    let a : ℕ = g.sp - stack_bytes n in
     record { real = set-sp-real a w.real; bytes = store-real k a g.lr w.bytes w.real.lr; sp = omega (arith, w.sp) }
 solid-exec Nothing g k w = w
 

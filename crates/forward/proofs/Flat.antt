@@ -5,7 +5,7 @@ use mathlib.Core.Path.{◌≡◌, refl, sym, ap, ◌∙◌, subst}
 use mathlib.Core.Logic.{◌⊎◌, inl, inr}
 use mathlib.Core.List.{List, [], ◌∷◌, ◌++◌, append_assoc}
 use native.Mathlib.Omega.{arith}
-use Rattle.lent.specs.Lent.{Lent, wordAt}
+use Rattle.lent.specs.Lent.{Lent, word_at}
 use Rattle.codes.specs.declared.Code.{Code}
 use Rattle.codes.specs.declared.Undo.{Undo}
 use Rattle.codes.specs.declared.Undo.TheVariants.{Up, Pop, SpFrom, Vpop, LoadLr, Nothing}
@@ -18,16 +18,16 @@ abbrev pub loads : List ℕ → List Op
 loads [] = []
 loads (x ∷ xs) = load x ∷ loads xs
 
-abbrev pub lrOps : ℕ → List Op
-lrOps zero = peek ∷ []
-lrOps (suc n) = load 14 ∷ skip n ∷ []
+abbrev pub lr_ops : ℕ → List Op
+lr_ops zero = peek ∷ []
+lr_ops (suc n) = load 14 ∷ skip n ∷ []
 
 abbrev pub ops : Undo → List Op
 ops (Up n) = skip n.0 ∷ []
 ops (Pop l) = loads (saves (Pop l))
 ops (SpFrom x) = from x ∷ []
 ops (Vpop s e) = loads (saves (Vpop s e))
-ops (LoadLr n) = lrOps n.0
+ops (LoadLr n) = lr_ops n.0
 ops Nothing = []
 
 abbrev pub flat : List Code → List Op
@@ -49,7 +49,7 @@ need-loads (y ∷ ys) os x w =
     let i = need-loads ys os x w.1 in
     (i.0, λ q. elim q [ inl e ↦ w.0 e | inr a ↦ i.1 a ])
 
-need-lr : (n : ℕ) (os : List Op) (x : ℕ) → Need (lrOps n ++ os) x → Need os x × (Among x (14 ∷ []) → ⊥)
+need-lr : (n : ℕ) (os : List Op) (x : ℕ) → Need (lr_ops n ++ os) x → Need os x × (Among x (14 ∷ []) → ⊥)
 need-lr zero os x w = (w.1, λ q. elim q [ inl e ↦ w.0 e | inr a ↦ a ])
 need-lr (suc n) os x w = (w.1, λ q. elim q [ inl e ↦ w.0 e | inr a ↦ a ])
 
@@ -90,37 +90,37 @@ lasting-range x (inr (inr a)) (inr q) = omega arith
 module _ (of : ℕ → Type 0) (k k' : Lent) where
   holds_kept :
       (xs : List ℕ) (os : List Op) (a : ℕ) → ((x : ℕ) → Need os x → of x) → Holds of k k' a xs
-      → Kept (wordAt k') (wordAt k) os (a + bytes xs)
-      → Kept (wordAt k') (wordAt k) (loads xs ++ os) a
-  holds_kept [] os a inc h w = subst (Kept (wordAt k') (wordAt k) os) (let z : a + 0 ≡ a = omega arith in z) w
+      → Kept (word_at k') (word_at k) os (a + bytes xs)
+      → Kept (word_at k') (word_at k) (loads xs ++ os) a
+  holds_kept [] os a inc h w = subst (Kept (word_at k') (word_at k) os) (let z : a + 0 ≡ a = omega arith in z) w
   holds_kept (x ∷ xs) os a inc h w = (
     λ n. h.0 (inc x (need-loads xs os x n).0),
     holds_kept xs os (a + width x) inc h.1
-        (subst (Kept (wordAt k') (wordAt k) os) (let z : a + (width x + bytes xs) ≡ a + width x + bytes xs = omega arith in z) w),
+        (subst (Kept (word_at k') (word_at k) os) (let z : a + (width x + bytes xs) ≡ a + width x + bytes xs = omega arith in z) w),
   )
 
   lr-kept :
       (n : ℕ) (os : List Op) (a : ℕ) → ((x : ℕ) → Need os x → of x) → Holds of k k' a (14 ∷ [])
-      → Kept (wordAt k') (wordAt k) os (a + 4 * n)
-      → Kept (wordAt k') (wordAt k) (lrOps n ++ os) a
-  lr-kept zero os a inc h w = (λ n. h.0 (inc 14 n), subst (Kept (wordAt k') (wordAt k) os) (let z : a + 4 * 0 ≡ a = omega arith in z) w)
+      → Kept (word_at k') (word_at k) os (a + 4 * n)
+      → Kept (word_at k') (word_at k) (lr_ops n ++ os) a
+  lr-kept zero os a inc h w = (λ n. h.0 (inc 14 n), subst (Kept (word_at k') (word_at k) os) (let z : a + 4 * 0 ≡ a = omega arith in z) w)
   lr-kept (suc n) os a inc h w =
-      (λ n. h.0 (inc 14 n), subst (Kept (wordAt k') (wordAt k) os) (let z : a + 4 * suc n ≡ a + 4 + 4 * n = omega arith in z) w)
+      (λ n. h.0 (inc 14 n), subst (Kept (word_at k') (word_at k) os) (let z : a + 4 * suc n ≡ a + 4 + 4 * n = omega arith in z) w)
 
   code-kept :
       (u : Undo) (os : List Op) (a : ℕ) → ((x : ℕ) → Need os x → of x) → Holds of k k' a (saves u)
-      → Kept (wordAt k') (wordAt k) os (a + falls u)
-      → Kept (wordAt k') (wordAt k) (ops u ++ os) a
+      → Kept (word_at k') (word_at k) os (a + falls u)
+      → Kept (word_at k') (word_at k) (ops u ++ os) a
   code-kept (Up n) os a inc h w = w
   code-kept (Pop l) os a inc h w = holds_kept (saves (Pop l)) os a inc h w
-  code-kept (SpFrom x) os a inc h w = subst (Kept (wordAt k') (wordAt k) os) (let z : a + 0 ≡ a = omega arith in z) w
+  code-kept (SpFrom x) os a inc h w = subst (Kept (word_at k') (word_at k) os) (let z : a + 0 ≡ a = omega arith in z) w
   code-kept (Vpop s e) os a inc h w = holds_kept (saves (Vpop s e)) os a inc h w
   code-kept (LoadLr n) os a inc h w = lr-kept n.0 os a inc h w
-  code-kept Nothing os a inc h w = subst (Kept (wordAt k') (wordAt k) os) (let z : a + 0 ≡ a = omega arith in z) w
+  code-kept Nothing os a inc h w = subst (Kept (word_at k') (word_at k) os) (let z : a + 0 ≡ a = omega arith in z) w
 
   pub words-kept :
       (cs : List Code) (a : ℕ) → ((x : ℕ) → RX cs x ⊎ Lasting x → of x) → Words of k k' a cs
-      → Kept (wordAt k') (wordAt k) (flat cs) a
+      → Kept (word_at k') (word_at k) (flat cs) a
   words-kept [] a inc h = tt
   words-kept (c ∷ cs) a inc h =
       code-kept c.undo (flat cs) a

@@ -68,7 +68,7 @@ module _ {base : ℕ} {e : St} {b : Seen} {m : ℕ → ℕ} (x : ℕ) (xs : List
         s = i.s;
         exec = more {c = skip n} g.exec (subst (λ w. Forward cs w Any (Unit {0}) g.s i.s) same g.fwd);
         keeps = record {
-          spAt = i.keeps.spAt;
+          sp_at = i.keeps.sp_at;
           regs = λ y w. i.keeps.regs y (need-up (x ∷ xs) cs y dead w);
           words = kept-down m i.s.m (x ∷ xs) cs i.s.sp (i.s.sp + 4 * n) (omega (arith, same)) i.keeps.words;
         };
@@ -82,7 +82,7 @@ module _ {base : ℕ} {e : St} {b : Seen} {m : ℕ → ℕ} (x : ℕ) (xs : List
       go (more {s = s} {t = t} y f) k near =
           inv-of (rose e s (x ∷ xs) cs t dead y (subst (λ w. Forward cs w Any (Unit {0}) s t) (sym same) f)) near
           (record {
-            spAt = k.spAt;
+            sp_at = k.sp_at;
             regs = λ z w. k.regs z (need-down (x ∷ xs) cs z w);
             words = kept-up m t.m (x ∷ xs) cs t.sp (t.sp + 4 * n) (omega (arith, same)) dead k.words;
           })

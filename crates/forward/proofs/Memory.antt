@@ -5,13 +5,13 @@ use mathlib.Core.Path.{◌≡◌, refl, ap, ap₂, ◌∙◌}
 use mathlib.Core.Logic.{inl, inr}
 use lib.ListN.{get_or}
 use native.Mathlib.Omega.{arith}
-use Rattle.lent.specs.Lent.{Lent, wordAt}
+use Rattle.lent.specs.Lent.{Lent, word_at}
 use Rattle.forward.specs.State.{Outside}
 
 -- a word is that of its four bytes
 word-agree :
     (k k' : Lent) (a : ℕ) → k'.base ≡ k.base → ((i : ℕ) → a - k.base ≤ i → i < a - k.base + 4 → get_or k'.bytes i 0 ≡ get_or k.bytes i 0)
-    → wordAt k' a ≡ wordAt k a
+    → word_at k' a ≡ word_at k a
 word-agree k k' a b h =
     let i : ℕ = a - k.base in
     let j : ℕ = a - k'.base in
@@ -22,10 +22,10 @@ word-agree k k' a b h =
     byte : (i j : ℕ) → j ≡ i → a - k.base ≤ i → i < a - k.base + 4 → get_or k'.bytes j 0 ≡ get_or k.bytes i 0
     byte i j e p q = ap (λ n. get_or k'.bytes n 0) e ∙ h i p q
 
-pub outside_above : {lo hi : ℕ} {k k' : Lent} → Outside lo hi k k' → (a : ℕ) → hi ≤ a → wordAt k' a ≡ wordAt k a
+pub outside_above : {lo hi : ℕ} {k k' : Lent} → Outside lo hi k k' → (a : ℕ) → hi ≤ a → word_at k' a ≡ word_at k a
 outside_above {lo} {hi} {k} {k'} o a h = word-agree k k' a o.base (λ i p q. o.same i (inr (omega arith)))
 
-pub outside_below : {lo hi : ℕ} {k k' : Lent} → Outside lo hi k k' → (a : ℕ) → k.base ≤ a → a + 4 ≤ lo → wordAt k' a ≡ wordAt k a
+pub outside_below : {lo hi : ℕ} {k k' : Lent} → Outside lo hi k k' → (a : ℕ) → k.base ≤ a → a + 4 ≤ lo → word_at k' a ≡ word_at k a
 outside_below {lo} {hi} {k} {k'} o a b h = word-agree k k' a o.base (λ i p q. o.same i (inl (omega arith)))
 
 pub outside-same : (lo hi : ℕ) (k : Lent) → Outside lo hi k k

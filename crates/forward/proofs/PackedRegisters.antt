@@ -8,7 +8,7 @@ use lib.Dec.{T, eqb, eqb→eq}
 use native.Mathlib.Omega.{arith}
 use borrow.Author.Tests.{eqb-true, eqb-false}
 use Rattle.words.specs.Answer.{if◌then◌else◌}
-use Rattle.codes.specs.Table.{range, lrIf}
+use Rattle.codes.specs.Table.{range, lr_if}
 use Rattle.packed.specs.Packed.{Fit, integers}
 use Rattle.packed.specs.declared.Packed.{Packed}
 use Rattle.forward.specs.Saving.{listed, upward}
@@ -45,11 +45,11 @@ same-eq (x ∷ xs) (y ∷ ys) t =
     ap₂ ◌∷◌ (eqb→eq x y u.0) (same-eq xs ys u.1)
 
 -- ---- the registers of a list
--- rS-r3
+-- r_s-r3
 abbrev pub folds : Bool → (a : ℕ) → List ℕ
 folds f a = if f then upward (3 - a) (a + 1) else []
 
--- r4-rN, r11
+-- r4-r_n, r11
 abbrev pub names : (r reg c : ℕ) → List ℕ
 names r reg c = (if eqb r 0 then upward 4 (reg + 1) else []) ++ (if eqb c 1 then 11 ∷ [] else [])
 
@@ -64,7 +64,7 @@ abbrev pub clash : (r reg c : ℕ) → Bool
 clash r reg c = eqb c 1 && eqb r 0 && eqb reg 7
 
 abbrev right : (r reg c a b : ℕ) → Bool → Bool
-right r reg c a b f = clash r reg c || same (listed (list_of r reg c a f + lrIf b) 15) (folds f a ++ (names r reg c ++ lrs b))
+right r reg c a b f = clash r reg c || same (listed (list_of r reg c a f + lr_if b) 15) (folds f a ++ (names r reg c ++ lrs b))
 
 abbrev by-b : (r reg c a b : ℕ) → Bool
 by-b r reg c a b = right r reg c a b true && right r reg c a b false
@@ -96,8 +96,8 @@ right-at r reg c a b f hr hg hc ha hb =
 
 pub registers :
     (p : Packed) → Fit p → (f : Bool) (b : ℕ) → b < 2 → clash p.r p.reg p.c ≡ false
-    → listed (integers p f + lrIf b) 15 ≡ folds f (p.adjust % 4) ++ (names p.r p.reg p.c ++ lrs b)
+    → listed (integers p f + lr_if b) 15 ≡ folds f (p.adjust % 4) ++ (names p.r p.reg p.c ++ lrs b)
 registers p w f b h n =
-    let rest : Bool = same (listed (integers p f + lrIf b) 15) (folds f (p.adjust % 4) ++ (names p.r p.reg p.c ++ lrs b)) in
+    let rest : Bool = same (listed (integers p f + lr_if b) 15) (folds f (p.adjust % 4) ++ (names p.r p.reg p.c ++ lrs b)) in
     let t : T (clash p.r p.reg p.c || rest) = right-at p.r p.reg p.c (p.adjust % 4) b f w.r w.reg w.c (omega arith) h in
     same-eq _ _ (subst (λ x. T (x || rest)) n t)

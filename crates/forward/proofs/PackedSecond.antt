@@ -13,14 +13,14 @@ use Rattle.words.specs.Bits.{bit}
 use Rattle.words.specs.Units.{stack_words}
 use Rattle.words.specs.declared.Halfwords.{Halfwords}
 use Rattle.words.specs.Answer.{if◌then◌else◌}
-use Rattle.codes.specs.Table.{lrIf, bits16, bits32}
+use Rattle.codes.specs.Table.{lr_if, bits16, bits32}
 use Rattle.codes.specs.declared.Code.{Code}
 use Rattle.codes.specs.declared.Undo.{Undo}
 use Rattle.codes.specs.declared.Undo.TheVariants.{Up, Pop, Vpop, LoadLr, Nothing}
 use Rattle.packed.specs.Packed.{Fit, allowed, folded, amount, PF, EF, integers}
-use Rattle.packed_codes.specs.PackedCodes.{low, pushed, chainAlone}
+use Rattle.packed_codes.specs.PackedCodes.{low, pushed, chain_alone}
 use Rattle.packed.specs.declared.Packed.{Packed}
-use Rattle.packed_codes.specs.Lists.{only, sizeIf, ups, vpops, pops, nops, homes, prologueCodes, leaving, leaves, epilogueCodes}
+use Rattle.packed_codes.specs.Lists.{only, size_if, ups, vpops, pops, nops, homes, prologue_codes, leaving, leaves, epilogue_codes}
 use Rattle.packed_codes.proofs.Decoding.{prologue-is}
 use Rattle.forward.specs.Registers.{Lasting}
 use Rattle.forward.specs.Saving.{listed, upward, IsRX, RX}
@@ -35,20 +35,20 @@ use Rattle.forward.proofs.Ready.{Second}
 use Rattle.forward.proofs.PackedRegisters.{folds, names, lrs, clash, registers}
 
 -- ---- the steps of each piece
-flat-pop : (w : Bool) (l b : ℕ) → flat (pops w l b) ≡ loads (listed (l + lrIf b) 15)
+flat-pop : (w : Bool) (l b : ℕ) → flat (pops w l b) ≡ loads (listed (l + lr_if b) 15)
 flat-pop w l b = go (eqb (l + b) 0) refl
   where
-    go : (t : Bool) → eqb (l + b) 0 ≡ t → flat (only (not t) (Pop (l + lrIf b)) (sizeIf w)) ≡ loads (listed (l + lrIf b) 15)
+    go : (t : Bool) → eqb (l + b) 0 ≡ t → flat (only (not t) (Pop (l + lr_if b)) (size_if w)) ≡ loads (listed (l + lr_if b) 15)
     go true e =
         let p : l ≡ 0 = omega (arith, eqb-true (l + b) 0 e) in
         let q : b ≡ 0 = omega (arith, eqb-true (l + b) 0 e) in
-        ap₂ (λ i j. loads (listed (i + lrIf j) 15)) (sym p) (sym q)
-    go false e = append-nil (loads (listed (l + lrIf b) 15))
+        ap₂ (λ i j. loads (listed (i + lr_if j) 15)) (sym p) (sym q)
+    go false e = append-nil (loads (listed (l + lr_if b) 15))
 
-abbrev homeOps : Packed → List Op
-homeOps p = if eqb p.h 1 then skip 4 ∷ [] else []
+abbrev home_ops : Packed → List Op
+home_ops p = if eqb p.h 1 then skip 4 ∷ [] else []
 
-flat-homes : (p : Packed) → flat (homes p) ≡ homeOps p
+flat-homes : (p : Packed) → flat (homes p) ≡ home_ops p
 flat-homes p = go (eqb p.h 1)
   where
     go : (t : Bool) → flat (only t (Up (stack_words 4)) bits16) ≡ (if t then skip 4 ∷ [] else [])
@@ -56,7 +56,7 @@ flat-homes p = go (eqb p.h 1)
     go false = refl
 
 flat-nops : (p : Packed) → flat (nops p) ≡ []
-flat-nops p = go (eqb p.c 1) (sizeIf (chainAlone (pushed p)))
+flat-nops p = go (eqb p.c 1) (size_if (chain_alone (pushed p)))
   where
     go : (t : Bool) (n : Halfwords) → flat (only t Nothing n) ≡ []
     go true n = refl
@@ -64,7 +64,7 @@ flat-nops p = go (eqb p.c 1) (sizeIf (chainAlone (pushed p)))
 
 -- ---- both lists' steps
 abbrev tail : Packed → List Op
-tail p = loads (names p.r p.reg p.c ++ lrs p.l) ++ homeOps p
+tail p = loads (names p.r p.reg p.c ++ lrs p.l) ++ home_ops p
 
 abbrev body : Packed → Bool → List Op
 body p f = loads (folds f (p.adjust % 4)) ++ tail p
@@ -79,7 +79,7 @@ module _ (p : Packed) (w : Fit p) (ok : clash p.r p.reg p.c ≡ false) where
       ap (λ x. x ++ h) (flat-pop t (integers p f) p.l ∙ ap loads (registers p w f p.l w.l ok) ∙ loads-append (folds f (p.adjust % 4)) (names p.r p.reg p.c ++ lrs p.l))
       ∙ append_assoc (loads (folds f (p.adjust % 4))) (loads (names p.r p.reg p.c ++ lrs p.l)) h
 
-  pub flat-first : flat (prologueCodes p).list ≡ shape p (PF p)
+  pub flat-first : flat (prologue_codes p).list ≡ shape p (PF p)
   flat-first =
       let l : ℕ = integers p (PF p) in
       ap flat (prologue-is p)
@@ -89,8 +89,8 @@ module _ (p : Packed) (w : Fit p) (ok : clash p.r p.reg p.c ≡ false) where
       ∙ ap (λ x. x ++ flat (pops (low l) l p.l))
       (flat_append (ups p (PF p) ++ vpops p) (nops p) ∙ ap₂ ◌++◌ (flat_append (ups p (PF p)) (vpops p)) (flat-nops p) ∙ append-nil (flat (ups p (PF p)) ++ flat (vpops p))))
       (flat-homes p)
-      ∙ append_assoc (flat (ups p (PF p)) ++ flat (vpops p)) (flat (pops (low l) l p.l)) (homeOps p)
-      ∙ ap (λ x. flat (ups p (PF p)) ++ flat (vpops p) ++ x) (plain (low l) (PF p) (homeOps p))
+      ∙ append_assoc (flat (ups p (PF p)) ++ flat (vpops p)) (flat (pops (low l) l p.l)) (home_ops p)
+      ∙ ap (λ x. flat (ups p (PF p)) ++ flat (vpops p) ++ x) (plain (low l) (PF p) (home_ops p))
       ∙ append_assoc (flat (ups p (PF p))) (flat (vpops p)) (body p (PF p))
 
   -- LR by itself, with the home words, is LR last in the list and then the home words
@@ -127,9 +127,9 @@ module _ (p : Packed) (w : Fit p) (ok : clash p.r p.reg p.c ≡ false) where
       go false false e q =
           flat_append (pops (low (integers p f) && eqb p.l 0) (integers p f) p.l) (homes p)
           ∙ ap (λ x. flat (pops (low (integers p f) && eqb p.l 0) (integers p f) p.l) ++ x) (flat-homes p)
-          ∙ plain (low (integers p f) && eqb p.l 0) f (homeOps p)
+          ∙ plain (low (integers p f) && eqb p.l 0) f (home_ops p)
 
-  pub flat-second : (p.ret ≡ 0 → p.l ≢ 0) → flat (epilogueCodes p).list ≡ shape p (EF p)
+  pub flat-second : (p.ret ≡ 0 → p.l ≢ 0) → flat (epilogue_codes p).list ≡ shape p (EF p)
   flat-second n =
       flat_append (ups p (EF p) ++ vpops p) (leaves p).list
       ∙ ap₂ ◌++◌ (flat_append (ups p (EF p)) (vpops p)) (flat-leaves (EF p) n)
@@ -142,7 +142,7 @@ need-past (y ∷ ys) os x n = need-past ys os x n.1
 
 -- no register below r4 is needed before the rest of the list
 low-dead : (p : Packed) (x : ℕ) → x ≤ 3 → Need (tail p) x → ⊥
-low-dead p x h n = lasting-range x (go (eqb p.h 1) (need-past (names p.r p.reg p.c ++ lrs p.l) (homeOps p) x n)) (inl h)
+low-dead p x h n = lasting-range x (go (eqb p.h 1) (need-past (names p.r p.reg p.c ++ lrs p.l) (home_ops p) x n)) (inl h)
   where
     go : (t : Bool) → Need (if t then skip 4 ∷ [] else []) x → Lasting x
     go true q = q
@@ -187,8 +187,8 @@ module _ (p : Packed) (base : ℕ) (e : St) (b : Seen) (m : ℕ → ℕ) where
   shape-false d f =
       let n : ℕ = p.adjust % 4 + 1 in
       ap (λ v. flat (ups p false) ++ (flat v ++ body p false)) d
-      ∙ ap (λ t. let m : ℕ = if t then n else p.adjust in flat (only (not (eqb m 0)) (Up (stack_words m)) (sizeIf (leb m 127))) ++ tail p) f
-      ∙ ap (λ t. flat (only (not t) (Up (stack_words n)) (sizeIf (leb n 127))) ++ tail p) (ne_eqb n 0 (λ q. omega arith))
+      ∙ ap (λ t. let m : ℕ = if t then n else p.adjust in flat (only (not (eqb m 0)) (Up (stack_words m)) (size_if (leb m 127))) ++ tail p) f
+      ∙ ap (λ t. flat (only (not t) (Up (stack_words n)) (size_if (leb n 127))) ++ tail p) (ne_eqb n 0 (λ q. omega arith))
 
   shapes :
       (f g : Bool) → (f ≡ true → folded p ≡ true) → (g ≡ true → folded p ≡ true) → vpops p ≡ [] → Inv base e (shape p f) b m → Inv base e (shape p g) b m
@@ -218,7 +218,7 @@ no-only true u n h x (inr q) = q
 no-only false u n h x q = q
 
 no-pop : (t : Bool) (l b : ℕ) → NoRX (pops t l b)
-no-pop t l b = no-only (not (eqb (l + b) 0)) (Pop (l + lrIf b)) (sizeIf t) (λ x q. q)
+no-pop t l b = no-only (not (eqb (l + b) 0)) (Pop (l + lr_if b)) (size_if t) (λ x q. q)
 
 no-leaves : (p : Packed) (l : ℕ) (s t : Bool) → NoRX (leaving s t p l).list
 no-leaves p l true t = no-append (pops (low l) l 0) (only true (LoadLr (stack_words 5)) bits32) (no-pop (low l) l 0) (no-only true (LoadLr (stack_words 5)) bits32 (λ x q. q))
@@ -226,10 +226,10 @@ no-leaves p l false true = no-pop (low l) l p.l
 no-leaves p l false false =
     no-append (pops (low l && eqb p.l 0) l p.l) (homes p) (no-pop (low l && eqb p.l 0) l p.l) (no-only (eqb p.h 1) (Up (stack_words 4)) bits16 (λ x q. q))
 
-no_second : (p : Packed) → NoRX (epilogueCodes p).list
+no_second : (p : Packed) → NoRX (epilogue_codes p).list
 no_second p =
     no-append (ups p (EF p) ++ vpops p) (leaves p).list
-    (no-append (ups p (EF p)) (vpops p) (no-only (not (EF p) && not (eqb (amount p).0 0)) (Up (amount p)) (sizeIf (leb (amount p).0 127)) (λ x q. q))
+    (no-append (ups p (EF p)) (vpops p) (no-only (not (EF p) && not (eqb (amount p).0 0)) (Up (amount p)) (size_if (leb (amount p).0 127)) (λ x q. q))
     (no-only (eqb p.r 1 && not (eqb p.reg 7)) (Vpop 8 (8 + p.reg)) bits32 (λ x q. q)))
     (no-leaves p (integers p (EF p)) (eqb p.h 1 && eqb p.l 1) (eqb p.ret 0))
 
@@ -260,13 +260,13 @@ same-or-none p h = go (eqb p.r 1) (eqb p.reg 7) refl refl
     go true false e f = inl (h (eqb-true p.r 1 e, eqb-false p.reg 7 f))
     go false t e f = inr refl
 
-pub packed-second : (p : Packed) → Fit p → allowed p ≡ true → (SavesD p → PF p ≡ EF p) → Second (prologueCodes p).list (epilogueCodes p).list
+pub packed-second : (p : Packed) → Fit p → allowed p ≡ true → (SavesD p → PF p ≡ EF p) → Second (prologue_codes p).list (epilogue_codes p).list
 unfolding NoRX
 packed-second p w a h = record {
   inv = λ base e b m v.
       subst (λ x. Inv base e x b m) (sym (flat-second p w (is-allowed p a).clashes (is-allowed p a).returns))
       (go base e b m (same-or-none p h) (subst (λ x. Inv base e x b m) (flat-first p w (is-allowed p a).clashes) v));
-  rX = λ x q. absurd (no_second p x q);
+  r_x = λ x q. absurd (no_second p x q);
 }
   where
     go : (base : ℕ) (e : St) (b : Seen) (m : ℕ → ℕ) → (PF p ≡ EF p) ⊎ (vpops p ≡ []) → Inv base e (shape p (PF p)) b m → Inv base e (shape p (EF p)) b m

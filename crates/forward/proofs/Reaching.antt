@@ -8,18 +8,18 @@ use mathlib.Core.List.{List, [], ◌∷◌, ◌++◌, append-nil, append_assoc}
 use lib.ListN.{length}
 use native.Mathlib.Omega.{arith}
 use Rattle.words.specs.Bits.{even}
-use Rattle.lent.specs.Lent.{Lent, end, wordAt}
+use Rattle.lent.specs.Lent.{Lent, end, word_at}
 use Rattle.words.specs.declared.Place.{Place}
 use Rattle.words.specs.declared.Place.TheVariants.{Prologue, Body, Epilogue}
 use Rattle.words.specs.Answer.{ok}
 use Rattle.unwinding.specs.CodeList.{total}
 use Rattle.unwinding.specs.Shape.{Shape}
 use Rattle.unwinding.specs.View.{View, view}
-use Rattle.codes.specs.Code.{size, codesAt}
+use Rattle.codes.specs.Code.{size, codes_at}
 use Rattle.codes.specs.declared.Code.{Code}
 use Rattle.codes.specs.declared.Undo.{Undo}
 use Rattle.codes.specs.declared.Undo.TheVariants.{Up, Pop, SpFrom, Vpop, LoadLr, Nothing}
-use Rattle.machine.specs.Registers.{setPc}
+use Rattle.machine.specs.Registers.{set_pc}
 use Rattle.machine.specs.declared.Regs.{Regs}
 use Rattle.machine.specs.Step.{effect}
 use Rattle.pdata.specs.Pdata.{find}
@@ -78,39 +78,39 @@ idle cs s pc i j = record {
   long = refl;
   words = words_same (Wanted cs) s.stack s.regs.sp cs;
   sp = in-same cs s.stack.base s.regs.sp i j;
-  rX = λ x q. refl;
+  r_x = λ x q. refl;
   unsaved = λ x q z. refl;
 }
 
-pub stood : {g : Regs} {k : Lent} (pc : ℕ) → Solid g k → Solid (setPc g pc) k
+pub stood : {g : Regs} {k : Lent} (pc : ℕ) → Solid g k → Solid (set_pc g pc) k
 stood pc x = record { real = record { r = x.real.r; lr = x.real.lr; d = x.real.d }; bytes = x.bytes; sp = x.sp }
 
 -- ---- an epilogue's instructions run
-module _ (k : Lent) (e : St) (al : e.sp % 4 ≡ 0) (top : e.sp ≤ end k) (rX : ℕ → Type 0) where
+module _ (k : Lent) (e : St) (al : e.sp % 4 ≡ 0) (top : e.sp ≤ end k) (r_x : ℕ → Type 0) where
   record Gone (done : List Code) (s : State) : Type 0 where
     now : State
-    left : Ran rX done s now
+    left : Ran r_x done s now
     pc : now.regs.pc ≡ s.regs.pc + total size done
     sp : now.regs.sp ≤ e.sp
     real : Bytes k → Real s.regs → Real now.regs
 
   record One (u : Undo) (cs : List Code) (pc : ℕ) (s : State) : Type 0 where
     now : State
-    leaves : Leaves rX u s now
+    leaves : Leaves r_x u s now
     at : now.regs.pc ≡ pc
-    inv : Inv k.base e (flat cs) (seen now.regs) (wordAt k)
+    inv : Inv k.base e (flat cs) (seen now.regs) (word_at k)
     stack : now.stack ≡ k
     real : Bytes k → Real s.regs → Real now.regs
 
   -- what the code does, and then the pc is put past it
   does-one :
-      (u : Undo) (cs : List Code) (pc : ℕ) (s : State) → Sound u → s.stack ≡ k → Inv k.base e (ops u ++ flat cs) (seen s.regs) (wordAt k)
-      → ((t : State) → Undoes u s t → Leaves rX u s t)
+      (u : Undo) (cs : List Code) (pc : ℕ) (s : State) → Sound u → s.stack ≡ k → Inv k.base e (ops u ++ flat cs) (seen s.regs) (word_at k)
+      → ((t : State) → Undoes u s t → Leaves r_x u s t)
       → One u cs pc s
   does-one u cs pc s o q v f =
       let n = effects k e al top u (flat cs) s.regs o s.whole v in
       let w : Whole n.next = n.whole in
-      let t : State = record { regs = setPc n.next pc; stack = s.stack; whole = record { r = w.r; d = w.d } } in
+      let t : State = record { regs = set_pc n.next pc; stack = s.stack; whole = record { r = w.r; d = w.d } } in
       record {
         now = t;
         leaves = f t (record {
@@ -126,7 +126,7 @@ module _ (k : Lent) (e : St) (al : e.sp % 4 ≡ 0) (top : e.sp ≤ end k) (rX : 
         real = λ b h. let w = effect-real k u s.regs n.next b h (n.runs k (outside-same e.sp (end k) k)) in record { r = w.r; lr = w.lr; d = w.d };
       }
 
-  leaves-one : (u : Undo) (cs : List Code) (pc : ℕ) (s : State) → Sound u → s.stack ≡ k → Inv k.base e (ops u ++ flat cs) (seen s.regs) (wordAt k) → One u cs pc s
+  leaves-one : (u : Undo) (cs : List Code) (pc : ℕ) (s : State) → Sound u → s.stack ≡ k → Inv k.base e (ops u ++ flat cs) (seen s.regs) (word_at k) → One u cs pc s
   leaves-one (Up n) cs pc s o q v = does-one (Up n) cs pc s o q v (λ t h. h)
   leaves-one (Pop l) cs pc s o q v = does-one (Pop l) cs pc s o q v (λ t h. h)
   leaves-one (SpFrom x) cs pc s o q v = does-one (SpFrom x) cs pc s o q v (λ t h. h)
@@ -135,7 +135,7 @@ module _ (k : Lent) (e : St) (al : e.sp % 4 ≡ 0) (top : e.sp ≤ end k) (rX : 
   leaves-one Nothing cs pc s o q v =
       record { now = standing pc s; leaves = record { sp = refl; rest = λ x h. refl; stack = refl }; at = refl; inv = v; stack = q; real = λ b h. record { r = h.r; lr = h.lr; d = h.d } }
 
-  leave : (done todo : List Code) (s : State) → AllSound (done ++ todo) → s.stack ≡ k → Inv k.base e (flat (done ++ todo)) (seen s.regs) (wordAt k) → Gone done s
+  leave : (done todo : List Code) (s : State) → AllSound (done ++ todo) → s.stack ≡ k → Inv k.base e (flat (done ++ todo)) (seen s.regs) (word_at k) → Gone done s
   unfolding total
   leave [] todo s o q v =
       record { now = s; left = none; pc = omega arith; sp = (inv-near k.base e al v).high; real = λ b h. h }
@@ -247,15 +247,15 @@ used {v} e o now a h i r p w =
     (reach e now Body (codes_of v) a r refl (k.base ∙ d.base) (k.long ∙ d.long) (λ y. solid-of (w y)) (body (record { late = h; outside = i; past = p })), refl)
 
 -- ---- an epilogue
-ran_on : {rX : ℕ → Type 0} {gone more : List Code} {s t u : State} → Ran rX gone s t → Ran rX more t u → Ran rX (gone ++ more) s u
+ran_on : {r_x : ℕ → Type 0} {gone more : List Code} {s t u : State} → Ran r_x gone s t → Ran r_x more t u → Ran r_x (gone ++ more) s u
 ran_on none m = m
 ran_on (next c f g) m = next c f (ran_on g m)
 
 leaving : {t : Inputs} {own : Entry} {s : Shape} {v : View Code} (e : State) → Leaving t own s v e
 unfolding reach
 leaving {t} {own} {s} {v} e sc ex start mid gone more undone a of fit c q h r p m w =
-    let y = viewed size codesAt s v a.passes6-7 in
-    let x = read_of size codesAt s y.epilogues of in
+    let y = viewed size codes_at s v a.passes6-7 in
+    let x = read_of size codes_at s y.epilogues of in
     let second = fit-second t.xdata own s v a.passes4-5 y sc ex of fit in
     let k : Lent = start.stack in
     let d = done-place p.done in
@@ -264,9 +264,9 @@ leaving {t} {own} {s} {v} e sc ex start mid gone more undone a of fit c q h r p 
     let top : e.regs.sp ≤ end k = omega (arith, r.high) in
     let z : ex.codes.list ≡ gone ++ (more ++ undone) = q ∙ append_assoc gone more undone in
     let sound : AllSound (gone ++ (more ++ undone)) = subst AllSound z (codes-sound _ _ _ x.codes) in
-    let inv = subst (λ l. Inv k.base (st e) (flat l) (seen start.regs) (wordAt k)) z
+    let inv = subst (λ l. Inv k.base (st e) (flat l) (seen start.regs) (word_at k)) z
     (second.inv _ _ _ _ (inv-body r.aligned p.done p.stays p.keeps)) in
-    let at = inv_left k (st e) r.aligned top (RX (codes_of v)) (more ++ undone) sound (λ x b. second.rX x (subst (λ l. RX l x) (sym z) b)) m refl inv in
+    let at = inv_left k (st e) r.aligned top (RX (codes_of v)) (more ++ undone) sound (λ x b. second.r_x x (subst (λ l. RX l x) (sym z) b)) m refl inv in
     let here : mid.stack ≡ k = left-stack m in
     let g = leave k (st e) r.aligned top (RX (codes_of v)) more undone mid (all_end SoundCode gone (more ++ undone) sound) here at in
     let same : g.now.stack ≡ k = subst (λ (l : Lent). g.now.stack ≡ l) here (left-stack {t = g.now} g.left) in (

@@ -5,7 +5,7 @@ use mathlib.Core.Path.{◌≡◌, refl, sym, subst}
 use mathlib.Core.List.{List, ◌++◌}
 use native.Mathlib.Omega.{arith}
 use borrow.Author.Tests.{eq-eqb}
-use Rattle.lent.specs.Lent.{Lent, end, wordAt}
+use Rattle.lent.specs.Lent.{Lent, end, word_at}
 use Rattle.words.specs.declared.Place.{Place}
 use Rattle.words.specs.declared.Place.TheVariants.{Prologue, Body, Epilogue}
 use Rattle.words.specs.Answer.{ok}
@@ -14,7 +14,7 @@ use Rattle.unwinding.specs.Shape.{Shape}
 use Rattle.unwinding.specs.View.{EpilogueOf, View}
 use Rattle.unwinding.specs.Todo.{todo}
 use Rattle.unwinding.specs.declared.Scope.{Scope}
-use Rattle.codes.specs.Code.{size, codesAt}
+use Rattle.codes.specs.Code.{size, codes_at}
 use Rattle.codes.specs.Condition.{executing}
 use Rattle.codes.specs.declared.Code.{Code}
 use Rattle.pdata.specs.declared.Entry.{Entry}
@@ -38,14 +38,14 @@ use Rattle.unwinding.proofs.Places.{todo-prologue, todo-body, todo-epilogue}
 -- the second list undoes what the first does
 pub record Second (first second : List Code) : Type 0 where
   pub inv : (base : ℕ) (e : St) (b : Seen) (m : ℕ → ℕ) → Inv base e (flat first) b m → Inv base e (flat second) b m
-  pub rX : (x : ℕ) → RX second x → RX first x
+  pub r_x : (x : ℕ) → RX second x → RX first x
 
 pub record Ready (v : View Code) (entry : State) (o : ℕ) (now : State) (p : Place) (cs : List Code) : Type 0 where
   pub todo : todo size executing v o ≡ ok (record { place = p; codes = cs })
   pub sound : AllSound cs
-  pub inv : Inv now.stack.base (st entry) (flat cs) (seen now.regs) (wordAt now.stack)
+  pub inv : Inv now.stack.base (st entry) (flat cs) (seen now.regs) (word_at now.stack)
 
-module _ (r : Entry) (s : Shape) (v : View Code) (entry : State) (w : Viewed size codesAt s v) (al : entry.regs.sp % 4 ≡ 0) where
+module _ (r : Entry) (s : Shape) (v : View Code) (entry : State) (w : Viewed size codes_at s v) (al : entry.regs.sp % 4 ≡ 0) where
   ready-prologue : {o : ℕ} {now : State} {cs : List Code} → InPrologue v entry o now cs → Ready v entry o now Prologue cs
   ready-prologue {o} {cs = cs} h =
       let e : total size cs ≡ o = sym h.offset in
@@ -66,19 +66,19 @@ module _ (r : Entry) (s : Shape) (v : View Code) (entry : State) (w : Viewed siz
       {o : ℕ} {now : State} {cs : List Code} (h : InEpilogue r s v entry o now cs) → entry.regs.sp ≤ end now.stack → Second (codes_of v) h.read.codes.list
       → Ready v entry o now Epilogue cs
   ready-epilogue {o} {now} {cs} h top q =
-      let x = read_of size codesAt s w.epilogues h.listed in
+      let x = read_of size codes_at s w.epilogues h.listed in
       let k : Lent = h.start.stack in
       let stack : now.stack ≡ k = left-stack h.ran in
       let sound : AllSound (h.gone ++ cs) = subst AllSound h.codes (codes-sound _ _ _ x.codes) in
       let i = q.inv _ _ _ _ (inv-body al h.past.done h.past.stays h.past.keeps) in
       let j = inv_left k (st entry) al (subst (λ (y : Lent). entry.regs.sp ≤ end y) stack top) (RX (codes_of v)) cs sound
-      (λ x a. q.rX x (subst (λ y. RX y x) (sym h.codes) a)) h.ran refl
-      (subst (λ y. Inv k.base (st entry) (flat y) (seen h.start.regs) (wordAt k)) h.codes i) in
+      (λ x a. q.r_x x (subst (λ y. RX y x) (sym h.codes) a)) h.ran refl
+      (subst (λ y. Inv k.base (st entry) (flat y) (seen h.start.regs) (word_at k)) h.codes i) in
       record {
         todo = subst (λ n. todo size executing v n ≡ ok (record { place = Epilogue; codes = cs })) (sym h.offset)
             (todo-epilogue size executing s.span v h.gone cs w.fit h.listed (eq-eqb _ _ h.unconditional) x.long (all-front _ h.gone cs (subst (Sized size) h.codes (codes-sized _ _ _ x.codes))) h.codes h.inside);
         sound = all_end SoundCode h.gone cs sound;
-        inv = subst (λ (y : Lent). Inv y.base (st entry) (flat cs) (seen now.regs) (wordAt y)) (sym stack) j;
+        inv = subst (λ (y : Lent). Inv y.base (st entry) (flat cs) (seen now.regs) (word_at y)) (sym stack) j;
       }
 
   pub ready :

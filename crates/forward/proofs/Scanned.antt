@@ -8,7 +8,7 @@ use native.Mathlib.Omega.{arith}
 use Rattle.words.specs.declared.CodeBytes.{CodeBytes}
 use Rattle.words.specs.Answer.{ok}
 use Rattle.unwinding.specs.CodeList.{Codes}
-use Rattle.codes.specs.Code.{codesAt}
+use Rattle.codes.specs.Code.{codes_at}
 use Rattle.codes.specs.declared.Code.{Code}
 use Rattle.unwinding.proofs.Scanning.{codes_all}
 use Rattle.codes.proofs.Scanning.{took, takes}
@@ -24,5 +24,5 @@ fourth P a b c d (suc (suc (suc zero))) h = d
 fourth P a b c d (suc (suc (suc (suc x)))) h = absurd (let z : suc (suc (suc (suc x))) < 4 = h in omega arith)
 
 -- each code of a list
-pub codes-sound : (s : List ℕ) (i : CodeBytes) (c : Codes Code) → codesAt s i ≡ ok c → AllSound c.list
+pub codes-sound : (s : List ℕ) (i : CodeBytes) (c : Codes Code) → codes_at s i ≡ ok c → AllSound c.list
 codes-sound s = codes_all takes SoundCode s (λ j c next e. sound-code _ _ c.undo (took j (drop j s) e).means)

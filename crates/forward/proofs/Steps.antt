@@ -6,7 +6,7 @@ use mathlib.Core.Path.{◌≡◌, refl, sym, ap, ◌∙◌, subst}
 use mathlib.Core.Logic.{inl, inr}
 use mathlib.Core.List.{List, [], ◌∷◌, ◌++◌}
 use native.Mathlib.Omega.{arith}
-use Rattle.lent.specs.Lent.{Lent, wordAt}
+use Rattle.lent.specs.Lent.{Lent, word_at}
 use Rattle.codes.specs.declared.Code.{Code}
 use Rattle.codes.specs.declared.Undo.{Undo}
 use Rattle.codes.specs.declared.Undo.TheVariants.{Up, Pop, SpFrom, Vpop, LoadLr, Nothing}
@@ -19,14 +19,14 @@ use Rattle.forward.specs.Body.{Wanted, SpAfter, SpIn, Body}
 use Rattle.forward.proofs.Ops.{Op, skip, load, from, peek, Seen, val, Kept, kept_frame, kept_same}
 use Rattle.forward.proofs.Back.{St, Above, Forward, Slack, Fwd, Exec, done, more, SpAt, Keeps, sp-at, exec-fits, Near, Inv}
 use Rattle.forward.proofs.Memory.{outside_above}
-use Rattle.forward.proofs.Flat.{lrOps, loads, ops, flat, need-cases, words-kept}
+use Rattle.forward.proofs.Flat.{lr_ops, loads, ops, flat, need-cases, words-kept}
 
 -- a machine's state and its registers, as undoing sees them
 abbrev pub seen : Regs → Seen
 seen g = record { sp = g.sp; r = value g }
 
 abbrev pub st : State → St
-st s = record { sp = s.regs.sp; r = value s.regs; m = wordAt s.stack }
+st s = record { sp = s.regs.sp; r = value s.regs; m = word_at s.stack }
 
 pub value_same : {g h : Regs} → SameRest g h → (x : ℕ) → value h x ≡ value g x
 value_same e x = rw (e.r, e.lr, e.d) refl
@@ -67,7 +67,7 @@ ran-slack l h = record { s = l.s; exec = l.exec; slack = slack-then l.slack h (�
 pushes :
     (e : St) (cs : List Op) (s : State) (k : Lent) (xs : List ℕ) (t : St) → Ran e cs (st s) → t.sp + bytes xs ≡ s.regs.sp
     → ((y : ℕ) → t.r y ≡ value s.regs y)
-    → t.m ≡ wordAt k
+    → t.m ≡ word_at k
     → Above s.regs.sp (st s) t
     → Stored k t.sp xs s.regs
     → Ran e (loads xs ++ cs) t
@@ -82,10 +82,10 @@ falls-r : {n hi : ℕ} {s t : State} → Falls n hi s t → (y : ℕ) → value 
 falls-r f y = value_same f.rest y
 
 store-lr :
-    (e : St) (cs : List Op) (n : ℕ) (s t : State) → Ran e cs (st s) → Falls (4 * suc n) (t.regs.sp + 4) s t → wordAt t.stack t.regs.sp ≡ s.regs.lr
+    (e : St) (cs : List Op) (n : ℕ) (s t : State) → Ran e cs (st s) → Falls (4 * suc n) (t.regs.sp + 4) s t → word_at t.stack t.regs.sp ≡ s.regs.lr
     → Ran e (load 14 ∷ skip n ∷ cs) (st t)
 store-lr e cs n s t l f h =
-    let t₁ : St = record { sp = t.regs.sp + 4; r = value t.regs; m = wordAt t.stack } in
+    let t₁ : St = record { sp = t.regs.sp + 4; r = value t.regs; m = word_at t.stack } in
     ran-more (load 14)
     (ran-more {t = t₁} (skip n) l (record {
       sp = omega (arith, f.sp);
@@ -104,21 +104,21 @@ does-ran e cs (SpFrom x) s t l f =
     ran-more (from x) l (record {
       sp = omega (arith, f.sp);
       r = λ y a w. f.rest y a;
-      above = λ a q. ap (λ k. wordAt k a) f.stack;
-      at = (f.rX, λ w. elim (need-cases cs x w) [ inl q ↦ f.once x q | inr p ↦ p.1 (f.saved p.0) ]);
+      above = λ a q. ap (λ k. word_at k a) f.stack;
+      at = (f.r_x, λ w. elim (need-cases cs x w) [ inl q ↦ f.once x q | inr p ↦ p.1 (f.saved p.0) ]);
     })
 does-ran e cs (Vpop a b) s t l f =
     pushes e (flat cs) s t.stack (saves (Vpop a b)) (st t) l f.falls.sp (falls-r f.falls) refl (outside_above f.falls.stack) f.stored
 does-ran e cs (LoadLr n) s t l f = go n.0 f.some f.falls
   where
-    go : (i : ℕ) → 0 < i → Falls (4 * i) (t.regs.sp + 4) s t → Ran e (lrOps i ++ flat cs) (st t)
+    go : (i : ℕ) → 0 < i → Falls (4 * i) (t.regs.sp + 4) s t → Ran e (lr_ops i ++ flat cs) (st t)
     go zero h g = absurd (let z : 0 < 0 = h in omega arith)
     go (suc i) h g = store-lr e (flat cs) i s t l g f.stored
 does-ran e cs Nothing s t l f =
     ran-slack l (record {
       sp = omega (arith, f.sp);
-      r = λ y a w. elim (need-cases cs y w) [ inl q ↦ f.rX y q | inr p ↦ f.unsaved y p.0 p.1 ];
-      above = λ a q. ap (λ k. wordAt k a) f.stack;
+      r = λ y a w. elim (need-cases cs y w) [ inl q ↦ f.r_x y q | inr p ↦ f.unsaved y p.0 p.1 ];
+      above = λ a q. ap (λ k. word_at k a) f.stack;
       at = tt;
     })
 
@@ -138,7 +138,7 @@ keeps-slack : {cs : List Op} {s t : St} {b : Seen} {m : ℕ → ℕ} → Slack c
 keeps-slack {cs} {s} {t} {b} {m} h k =
     let p : t.sp ≡ s.sp = omega (arith, h.sp) in
     record {
-      spAt = subst (λ a. SpAt cs a b.sp) p k.spAt;
+      sp_at = subst (λ a. SpAt cs a b.sp) p k.sp_at;
       regs = λ y w. k.regs y w ∙ h.r y tt w;
       words = kept_frame m t.m s.m cs s.sp h.above (subst (λ a. Kept m t.m cs a) p k.words);
     }
@@ -154,7 +154,7 @@ after-at (Up n) cs base a b h = h
 after-at (Pop l) cs base a b h = sp-at (loads (saves (Pop l)) ++ cs) h
 after-at (SpFrom x) cs base a b h = tt
 after-at (Vpop s e) cs base a b h = sp-at (loads (saves (Vpop s e)) ++ cs) h
-after-at (LoadLr n) cs base a b h = sp-at (lrOps n.0 ++ cs) h
+after-at (LoadLr n) cs base a b h = sp-at (lr_ops n.0 ++ cs) h
 after-at Nothing cs base a b h = sp-at cs h
 
 in-at : (cs : List Code) (base a b : ℕ) → SpIn cs base a b → SpAt (flat cs) a b
@@ -176,20 +176,20 @@ in_near (c ∷ cs) base a b h i j = after-near c.undo base a b h i j
 -- stopped in the prologue
 pub inv-prologue :
     {e t : State} {cs : List Code} → e.regs.sp % 4 ≡ 0 → Done e cs t → t.stack.base ≤ t.regs.sp
-    → Inv t.stack.base (st e) (flat cs) (seen t.regs) (wordAt t.stack)
+    → Inv t.stack.base (st e) (flat cs) (seen t.regs) (word_at t.stack)
 inv-prologue {t} {cs} al h low =
     let i = done-fits h al in
     inv-of (done-ran h) (record { even = i.1; low = low; high = omega arith })
-    (record { spAt = sp-at (flat cs) refl; regs = λ y w. refl; words = kept_same (wordAt t.stack) (flat cs) t.regs.sp })
+    (record { sp_at = sp-at (flat cs) refl; regs = λ y w. refl; words = kept_same (word_at t.stack) (flat cs) t.regs.sp })
 
 -- stopped in the body
 pub inv-body :
     {e s t : State} {cs : List Code} → e.regs.sp % 4 ≡ 0 → Done e cs s → s.stack.base ≤ s.regs.sp → Body cs s t
-    → Inv t.stack.base (st e) (flat cs) (seen t.regs) (wordAt t.stack)
+    → Inv t.stack.base (st e) (flat cs) (seen t.regs) (word_at t.stack)
 inv-body {e} {s} {t} {cs} al h low k =
-    subst (λ b. Inv b (st e) (flat cs) (seen t.regs) (wordAt t.stack)) (sym k.base)
+    subst (λ b. Inv b (st e) (flat cs) (seen t.regs) (word_at t.stack)) (sym k.base)
     (inv-of (done-ran h) (in_near cs s.stack.base s.regs.sp t.regs.sp k.sp (done-fits h al).1 low) (record {
-      spAt = in-at cs s.stack.base s.regs.sp t.regs.sp k.sp;
-      regs = λ y w. elim (need-cases cs y w) [ inl q ↦ k.rX y q | inr p ↦ k.unsaved y p.0 p.1 ];
+      sp_at = in-at cs s.stack.base s.regs.sp t.regs.sp k.sp;
+      regs = λ y w. elim (need-cases cs y w) [ inl q ↦ k.r_x y q | inr p ↦ k.unsaved y p.0 p.1 ];
       words = words-kept (Wanted cs) s.stack t.stack cs s.regs.sp (λ x q. q) k.words;
     }))

@@ -10,7 +10,7 @@ use lib.ListN.{length, get_or, set, length-set}
 use lib.Seq.{get_or-set_same, get_or-set_other}
 use native.Mathlib.Omega.{arith}
 use Rattle.lent.specs.Little.{word32}
-use Rattle.lent.specs.Lent.{Lent, end, wordAt}
+use Rattle.lent.specs.Lent.{Lent, end, word_at}
 use Rattle.words.specs.Answer.{if◌then◌else◌}
 use Rattle.machine.specs.declared.Regs.{Regs}
 use Rattle.forward.specs.Registers.{value, width, held}
@@ -35,13 +35,13 @@ put s i w = set (put3 s i w) (i + 3) (w / 256 / 256 / 256)
 abbrev pub store : Lent → (at word : ℕ) → Lent
 store k a w = record { base = k.base; bytes = put k.bytes (a - k.base) w }
 
-abbrev pub storeReg : Lent → (at x v : ℕ) → Lent
-storeReg k a x v = if ltb x 16 then store k a v else store (store k a (v % 2 ^ 32)) (a + 4) (v / 2 ^ 32)
+abbrev pub store_reg : Lent → (at x v : ℕ) → Lent
+store_reg k a x v = if ltb x 16 then store k a v else store (store k a (v % 2 ^ 32)) (a + 4) (v / 2 ^ 32)
 
 -- registers, the first at the lowest address
-abbrev pub storeAll : Lent → (at : ℕ) → List ℕ → Regs → Lent
-storeAll k a [] g = k
-storeAll k a (x ∷ xs) g = storeAll (storeReg k a x (value g x)) (a + width x) xs g
+abbrev pub store_all : Lent → (at : ℕ) → List ℕ → Regs → Lent
+store_all k a [] g = k
+store_all k a (x ∷ xs) g = store_all (store_reg k a x (value g x)) (a + width x) xs g
 
 length-put : (s : List ℕ) (i w : ℕ) → length (put s i w) ≡ length s
 length-put s i w = simp length-set
@@ -93,13 +93,13 @@ store-outside k a w b = record {
   same = λ i h. put_other k.bytes (a - k.base) w i (elim h [ inl l ↦ inl (omega arith) | inr l ↦ inr (omega arith) ]);
 }
 
-pub word-store : (k : Lent) (a w : ℕ) → k.base ≤ a → a + 4 ≤ end k → wordAt (store k a w) a ≡ w
+pub word-store : (k : Lent) (a w : ℕ) → k.base ≤ a → a + 4 ≤ end k → word_at (store k a w) a ≡ w
 word-store k a w b h = word-put k.bytes (a - k.base) w (omega arith)
 
 -- a register, in its one word or two
 record StoredReg (k : Lent) (a x v : ℕ) : Type 0 where
-  outside : Outside a (a + width x) k (storeReg k a x v)
-  held : held (storeReg k a x v) a x ≡ v
+  outside : Outside a (a + width x) k (store_reg k a x v)
+  held : held (store_reg k a x v) a x ≡ v
 
 stored-reg : (k : Lent) (a x v : ℕ) → k.base ≤ a → a + width x ≤ end k → StoredReg k a x v
 stored-reg k a x v b h = record { outside = out (ltb x 16); held = is (ltb x 16) h }
@@ -112,42 +112,42 @@ stored-reg k a x v b h = record { outside = out (ltb x 16); held = is (ltb x 16)
     is :
         (t : Bool) → a + (if t then 4 else 8) ≤ end k
         → (if t
-        then wordAt (if t then store k a v else store (store k a (v % 2 ^ 32)) (a + 4) (v / 2 ^ 32)) a
-        else wordAt (if t then store k a v else store (store k a (v % 2 ^ 32)) (a + 4) (v / 2 ^ 32)) a + 2 ^ 32 * wordAt (if t then store k a v else store (store k a (v % 2 ^ 32)) (a + 4) (v / 2 ^ 32)) (a + 4))
+        then word_at (if t then store k a v else store (store k a (v % 2 ^ 32)) (a + 4) (v / 2 ^ 32)) a
+        else word_at (if t then store k a v else store (store k a (v % 2 ^ 32)) (a + 4) (v / 2 ^ 32)) a + 2 ^ 32 * word_at (if t then store k a v else store (store k a (v % 2 ^ 32)) (a + 4) (v / 2 ^ 32)) (a + 4))
         ≡ v
     is true q = word-store k a v b q
     is false q =
         let k₁ : Lent = store k a (v % 2 ^ 32) in
         let o = store-outside k a (v % 2 ^ 32) b in
-        let low : wordAt (store k₁ (a + 4) (v / 2 ^ 32)) a ≡ v % 2 ^ 32 =
+        let low : word_at (store k₁ (a + 4) (v / 2 ^ 32)) a ≡ v % 2 ^ 32 =
         outside_below (store-outside k₁ (a + 4) (v / 2 ^ 32) (omega arith)) a b (omega arith) ∙ word-store k a (v % 2 ^ 32) b (omega arith) in
-        let high : wordAt (store k₁ (a + 4) (v / 2 ^ 32)) (a + 4) ≡ v / 2 ^ 32 = word-store k₁ (a + 4) (v / 2 ^ 32) (omega arith) (omega (arith, o.long)) in
+        let high : word_at (store k₁ (a + 4) (v / 2 ^ 32)) (a + 4) ≡ v / 2 ^ 32 = word-store k₁ (a + 4) (v / 2 ^ 32) (omega arith) (omega (arith, o.long)) in
         omega (arith, low, high)
 
 -- what is held below the written part stays
 held_below : {lo hi : ℕ} {k k' : Lent} → Outside lo hi k k' → (a x : ℕ) → k.base ≤ a → a + width x ≤ lo → held k' a x ≡ held k a x
 held_below {lo} {hi} {k} {k'} o a x b h = go (ltb x 16) h
   where
-    go : (t : Bool) → a + (if t then 4 else 8) ≤ lo → (if t then wordAt k' a else wordAt k' a + 2 ^ 32 * wordAt k' (a + 4)) ≡ (if t then wordAt k a else wordAt k a + 2 ^ 32 * wordAt k (a + 4))
+    go : (t : Bool) → a + (if t then 4 else 8) ≤ lo → (if t then word_at k' a else word_at k' a + 2 ^ 32 * word_at k' (a + 4)) ≡ (if t then word_at k a else word_at k a + 2 ^ 32 * word_at k (a + 4))
     go true q = outside_below o a b q
     go false q = ap₂ (λ v w. v + 2 ^ 32 * w) (outside_below o a b (omega arith)) (outside_below o (a + 4) (omega arith) (omega arith))
 
-pub store-all-outside : (xs : List ℕ) (k : Lent) (a : ℕ) (g : Regs) → k.base ≤ a → a + bytes xs ≤ end k → Outside a (a + bytes xs) k (storeAll k a xs g)
+pub store-all-outside : (xs : List ℕ) (k : Lent) (a : ℕ) (g : Regs) → k.base ≤ a → a + bytes xs ≤ end k → Outside a (a + bytes xs) k (store_all k a xs g)
 store-all-outside [] k a g b h = outside-same a (a + 0) k
 store-all-outside (x ∷ xs) k a g b h =
     let r = stored-reg k a x (value g x) b (omega arith) in
     outside-then r.outside
-    (store-all-outside xs (storeReg k a x (value g x)) (a + width x) g (omega (arith, r.outside.base)) (omega (arith, r.outside.base, r.outside.long)))
+    (store-all-outside xs (store_reg k a x (value g x)) (a + width x) g (omega (arith, r.outside.base)) (omega (arith, r.outside.base, r.outside.long)))
     (omega arith)
     (omega arith)
     (omega arith)
     (omega arith)
 
-pub store-all-stored : (xs : List ℕ) (k : Lent) (a : ℕ) (g : Regs) → k.base ≤ a → a + bytes xs ≤ end k → Stored (storeAll k a xs g) a xs g
+pub store-all-stored : (xs : List ℕ) (k : Lent) (a : ℕ) (g : Regs) → k.base ≤ a → a + bytes xs ≤ end k → Stored (store_all k a xs g) a xs g
 store-all-stored [] k a g b h = tt
 store-all-stored (x ∷ xs) k a g b h =
     let r = stored-reg k a x (value g x) b (omega arith) in
-    let k₁ : Lent = storeReg k a x (value g x) in
+    let k₁ : Lent = store_reg k a x (value g x) in
     let b₁ : k₁.base ≤ a + width x = omega (arith, r.outside.base) in
     let h₁ : a + width x + bytes xs ≤ end k₁ = omega (arith, r.outside.base, r.outside.long) in
     (held_below (store-all-outside xs k₁ (a + width x) g b₁ h₁) a x (omega (arith, r.outside.base)) (omega arith) ∙ r.held, store-all-stored xs k₁ (a + width x) g b₁ h₁)

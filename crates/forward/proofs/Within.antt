@@ -13,7 +13,7 @@ use Rattle.words.specs.declared.Place.{Place}
 use Rattle.words.specs.Answer.{ok}
 use Rattle.unwinding.specs.Shape.{Shape}
 use Rattle.unwinding.specs.View.{View, view}
-use Rattle.codes.specs.Code.{size, codesAt}
+use Rattle.codes.specs.Code.{size, codes_at}
 use Rattle.codes.specs.declared.Code.{Code}
 use Rattle.machine.specs.Registers.{reg}
 use Rattle.machine.specs.declared.Regs.{Regs}
@@ -33,10 +33,10 @@ value-r : (g : Regs) (x : ℕ) → x ≤ 11 → value g x ≡ reg g x
 value-r g x h = rw (lt-ltb x 16 (omega arith)) refl
 
 -- the caller that was found
-abbrev callerOf : Regs → Place → (handler : ℕ) → List Code → Caller
-callerOf h p rva cs = record { regs = returned h; place = p; handler = rva; codes = length cs }
+abbrev caller_of : Regs → Place → (handler : ℕ) → List Code → Caller
+caller_of h p rva cs = record { regs = returned h; place = p; handler = rva; codes = length cs }
 
-answers : (entry : State) (p : Place) (rva : ℕ) (cs : List Code) (g h : Regs) → Whole h → Entry (st entry) (seen h) → Answer entry p rva cs (unwound g (ok (callerOf h p rva cs)))
+answers : (entry : State) (p : Place) (rva : ℕ) (cs : List Code) (g h : Regs) → Whole h → Entry (st entry) (seen h) → Answer entry p rva cs (unwound g (ok (caller_of h p rva cs)))
 answers entry p rva cs g h w e = record {
   given = refl;
   sp = e.sp;
@@ -57,7 +57,7 @@ pub record FindsIn (s : Shape) (entry : State) (o : ℕ) (now : State) (p : Plac
   pub near : Near now.stack.base entry.regs.sp now.regs.sp
 
 pub finds-in :
-    (s : Shape) (v : View Code) (entry : State) (o : ℕ) (now : State) (p : Place) (cs : List Code) → view size codesAt s ≡ ok v
+    (s : Shape) (v : View Code) (entry : State) (o : ℕ) (now : State) (p : Place) (cs : List Code) → view size codes_at s ≡ ok v
     → entry.regs.sp % 4 ≡ 0
     → entry.regs.sp ≤ end now.stack
     → end now.stack < 2 ^ 32
@@ -70,7 +70,7 @@ finds-in s v entry o now p cs w al top m y =
     let n = inv-near now.stack.base (st entry) al y.inv in
     let up : now.regs.sp ≤ u.next.sp = omega (arith, n.high, e.sp) in
     record {
-      caller = callerOf u.next p s.handler cs;
+      caller = caller_of u.next p s.handler cs;
       given = λ k a. rw (w, y.todo, u.runs k a, le-leb _ _ up) refl;
       answer = answers entry p s.handler cs now.regs u.next u.whole e;
       near = n;

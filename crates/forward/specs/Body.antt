@@ -42,5 +42,5 @@ pub record Body (cs : List Code) (s t : State) : Type 0 where
   pub long : length t.stack.bytes ≡ length s.stack.bytes
   pub words : Words (Wanted cs) s.stack t.stack s.regs.sp cs
   pub sp : SpIn cs s.stack.base s.regs.sp t.regs.sp
-  pub rX : (x : ℕ) → RX cs x → value t.regs x ≡ value s.regs x
+  pub r_x : (x : ℕ) → RX cs x → value t.regs x ≡ value s.regs x
   pub unsaved : (x : ℕ) → Lasting x → (Saved cs x → ⊥) → value t.regs x ≡ value s.regs x

@@ -8,15 +8,15 @@ use Rattle.words.specs.declared.Verdict.TheVariants.{Given}
 use Rattle.words.specs.Answer.{ok}
 use Rattle.unwinding.specs.Shape.{Shape}
 use Rattle.unwinding.specs.View as Views
-use Rattle.codes.specs.Code.{size, codesAt}
+use Rattle.codes.specs.Code.{size, codes_at}
 use Rattle.codes.specs.declared.Code.{Code}
 use Rattle.machine.specs.Registers.{reg}
 use Rattle.machine.specs.declared.Regs.{Regs}
 use Rattle.pdata.specs.Pdata.{find}
-use Rattle.xdata.specs.Xdata.{fitXdata}
+use Rattle.xdata.specs.Xdata.{fit_xdata}
 use Rattle.record.specs.Record.{shape_of}
 use Rattle.pdata.specs.declared.Entry.{Entry}
-use Rattle.frame.specs.Frame.{Inputs, fitStack}
+use Rattle.frame.specs.Frame.{Inputs, fit_stack}
 use Rattle.frame.specs.declared.Unwound.{Unwound}
 use Rattle.forward.specs.State.{Whole, State, Outside}
 use Rattle.forward.specs.Stop.{Stopped}
@@ -28,13 +28,13 @@ lending t k = record { image = t.image; pdata = t.pdata; xdata = t.xdata; stack 
 -- what is asked of a function that was entered in one state and is now in another (RULES 10.6 to 10.19)
 pub record Asked (t : Inputs) (entry now : State) : Type 0 where
   -- of the inputs and of the record (RULES 10.6)
-  pub passes1 : (fitStack t.stack && fitXdata t.xdata) ≡ true
+  pub passes1 : (fit_stack t.stack && fit_xdata t.xdata) ≡ true
   pub own : Entry
   pub found : find t.image t.pdata now.regs.pc ≡ ok (some own)
   pub shape : Shape
   pub passes4-5 : shape_of t.xdata own ≡ ok shape
   pub view : Views.View Code
-  pub passes6-7 : Views.view size codesAt shape ≡ ok view
+  pub passes6-7 : Views.view size codes_at shape ≡ ok view
   pub offset : ℕ
   pub here : offset ≡ even now.regs.pc - t.image - own.start
   pub covers : offset < shape.span

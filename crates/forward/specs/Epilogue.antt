@@ -15,24 +15,24 @@ pub record Undoes (u : Undo) (s t : State) : Type 0 where
   pub stack : t.stack ≡ s.stack
 
 -- the registers that a nop may change: r0-r3 and r12, but not rX
-abbrev pub Free : (rX : ℕ → Type 0) → ℕ → Type 0
-Free rX x = ((x ≤ 3) ⊎ (x ≡ 12)) × (rX x → ⊥)
+abbrev pub Free : (r_x : ℕ → Type 0) → ℕ → Type 0
+Free r_x x = ((x ≤ 3) ⊎ (x ≡ 12)) × (r_x x → ⊥)
 
 -- a nop changes nothing but those
-pub record Idles (rX : ℕ → Type 0) (s t : State) : Type 0 where
+pub record Idles (r_x : ℕ → Type 0) (s t : State) : Type 0 where
   pub sp : t.regs.sp ≡ s.regs.sp
-  pub rest : (x : ℕ) → (Free rX x → ⊥) → value t.regs x ≡ value s.regs x
+  pub rest : (x : ℕ) → (Free r_x x → ⊥) → value t.regs x ≡ value s.regs x
   pub stack : t.stack ≡ s.stack
 
-abbrev pub Leaves : (rX : ℕ → Type 0) → Undo → State → State → Type 0
-Leaves rX (Up n) s t = Undoes (Up n) s t
-Leaves rX (Pop l) s t = Undoes (Pop l) s t
-Leaves rX (SpFrom x) s t = Undoes (SpFrom x) s t
-Leaves rX (Vpop a b) s t = Undoes (Vpop a b) s t
-Leaves rX (LoadLr n) s t = Undoes (LoadLr n) s t
-Leaves rX Nothing s t = Idles rX s t
+abbrev pub Leaves : (r_x : ℕ → Type 0) → Undo → State → State → Type 0
+Leaves r_x (Up n) s t = Undoes (Up n) s t
+Leaves r_x (Pop l) s t = Undoes (Pop l) s t
+Leaves r_x (SpFrom x) s t = Undoes (SpFrom x) s t
+Leaves r_x (Vpop a b) s t = Undoes (Vpop a b) s t
+Leaves r_x (LoadLr n) s t = Undoes (LoadLr n) s t
+Leaves r_x Nothing s t = Idles r_x s t
 
 -- the state that the instructions of these codes leave, the first code's first
-pub data Ran (rX : ℕ → Type 0) : List Code → State → State → Type 0 where
-  none : {s : State} → Ran rX [] s s
-  next : {cs : List Code} {s t u : State} (c : Code) → Leaves rX c.undo s t → Ran rX cs t u → Ran rX (c ∷ cs) s u
+pub data Ran (r_x : ℕ → Type 0) : List Code → State → State → Type 0 where
+  none : {s : State} → Ran r_x [] s s
+  next : {cs : List Code} {s t u : State} (c : Code) → Leaves r_x c.undo s t → Ran r_x cs t u → Ran r_x (c ∷ cs) s u

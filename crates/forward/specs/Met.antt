@@ -11,16 +11,16 @@ use Rattle.unwinding.specs.CodeList.{total}
 use Rattle.unwinding.specs.Shape.{Shape}
 use Rattle.unwinding.specs.View.{EpilogueOf, View, view}
 use Rattle.unwinding.specs.declared.Scope.{Scope}
-use Rattle.codes.specs.Code.{size, codesAt}
+use Rattle.codes.specs.Code.{size, codes_at}
 use Rattle.codes.specs.Condition.{always}
 use Rattle.codes.specs.declared.Code.{Code}
 use Rattle.codes.specs.declared.Undo.{Undo}
 use Rattle.codes.specs.declared.Undo.TheVariants.{Up, Pop, SpFrom, Vpop, LoadLr, Nothing}
 use Rattle.pdata.specs.Pdata.{find}
-use Rattle.xdata.specs.Xdata.{fitXdata}
+use Rattle.xdata.specs.Xdata.{fit_xdata}
 use Rattle.record.specs.Record.{shape_of}
 use Rattle.pdata.specs.declared.Entry.{Entry}
-use Rattle.frame.specs.Frame.{Inputs, fitStack}
+use Rattle.frame.specs.Frame.{Inputs, fit_stack}
 use Rattle.forward.specs.Registers.{Lasting}
 use Rattle.forward.specs.Saving.{falls, Saved, RX}
 use Rattle.forward.specs.State.{State}
@@ -76,17 +76,17 @@ pub record Reaches (t : Inputs) (entry : State) (offset : ℕ) (p : Place) (undo
 
 -- what the conditions ask of the tables: they pass 1 to 7 and this is their record at the pc, which stands at this offset of its function
 pub record At (t : Inputs) (own : Entry) (s : Shape) (v : View Code) (pc o : ℕ) : Type 0 where
-  pub passes1 : fitXdata t.xdata ≡ true
+  pub passes1 : fit_xdata t.xdata ≡ true
   pub found : find t.image t.pdata pc ≡ ok (some own)
   pub passes4-5 : shape_of t.xdata own ≡ ok s
-  pub passes6-7 : view size codesAt s ≡ ok v
+  pub passes6-7 : view size codes_at s ≡ ok v
   pub here : o ≡ even pc - t.image - own.start
   pub covers : o < s.span
   pub small : pc < 2 ^ 32
 
 -- what they ask of the entry: a stack that passes 1, and in it SP, a multiple of 4, with n bytes below
 pub record Roomy (e : State) (n : ℕ) : Type 0 where
-  pub fit : fitStack e.stack ≡ true
+  pub fit : fit_stack e.stack ≡ true
   pub aligned : e.regs.sp % 4 ≡ 0
   pub high : e.regs.sp ≤ end e.stack
   pub low : e.stack.base + n ≤ e.regs.sp

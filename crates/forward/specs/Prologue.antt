@@ -1,8 +1,8 @@
 -- A prologue's instructions, forwards: what each does to registers and stack, without any undoing (RULES 10.9 to 10.14). The pc goes on and
 -- is no part of it.
 use Rattle.std.specs.Prelude.{ℕ, ◌+◌, ◌<◌, ◌≡◌, ◌≢◌, List, [], ◌∷◌}
-use Rattle.lent.specs.Lent.{Lent, wordAt}
-use Rattle.words.specs.Units.{stackBytes}
+use Rattle.lent.specs.Lent.{Lent, word_at}
+use Rattle.words.specs.Units.{stack_bytes}
 use Rattle.words.specs.declared.StackWords.{StackWords}
 use Rattle.codes.specs.declared.Code.{Code}
 use Rattle.codes.specs.declared.Undo.{Undo}
@@ -30,19 +30,19 @@ pub record Pushes (xs : List ℕ) (s t : State) : Type 0 where
 
 -- SP falls, and LR is stored where it then is (RULES 10.10)
 pub record StoresLr (n : StackWords) (s t : State) : Type 0 where
-  pub falls : Falls (stackBytes n) (t.regs.sp + 4) s t
-  pub stored : wordAt t.stack t.regs.sp ≡ s.regs.lr
+  pub falls : Falls (stack_bytes n) (t.regs.sp + 4) s t
+  pub stored : word_at t.stack t.regs.sp ≡ s.regs.lr
   -- there is room for LR
   pub some : 0 < n.0
 
 -- SP falls, and what it falls over may be written, as by push {r0-r3} (RULES 10.11)
 abbrev pub Subtracts : StackWords → State → State → Type 0
-Subtracts n s t = Falls (stackBytes n) s.regs.sp s t
+Subtracts n s t = Falls (stack_bytes n) s.regs.sp s t
 
 -- SP is copied to rX, after the instructions of these codes (RULES 10.12)
 pub record Frames (before : List Code) (x : ℕ) (s t : State) : Type 0 where
   pub sp : t.regs.sp ≡ s.regs.sp
-  pub rX : value t.regs x ≡ s.regs.sp
+  pub r_x : value t.regs x ≡ s.regs.sp
   pub rest : (y : ℕ) → y ≢ x → value t.regs y ≡ value s.regs y
   pub stack : t.stack ≡ s.stack
   -- there was no copy before
@@ -54,7 +54,7 @@ pub record Frames (before : List Code) (x : ℕ) (s t : State) : Type 0 where
 pub record Rests (before : List Code) (s t : State) : Type 0 where
   pub stack : t.stack ≡ s.stack
   pub sp : t.regs.sp ≡ s.regs.sp
-  pub rX : (x : ℕ) → RX before x → value t.regs x ≡ value s.regs x
+  pub r_x : (x : ℕ) → RX before x → value t.regs x ≡ value s.regs x
   pub unsaved : (x : ℕ) → Lasting x → (Saved before x → ⊥) → value t.regs x ≡ value s.regs x
 
 -- the instruction that a code undoes, after the instructions of these codes

@@ -1,6 +1,6 @@
 -- Registers by one number: r0-r12 as they are, LR as 14, d0-d31 as 16-47. SP and pc have none.
 use Rattle.std.specs.Prelude.{ℕ, ◌+◌, ◌-◌, ◌*◌, ◌^◌, ◌≤◌, ◌≡◌, ◌⊎◌, get_or, ltb}
-use Rattle.lent.specs.Lent.{Lent, wordAt}
+use Rattle.lent.specs.Lent.{Lent, word_at}
 use Rattle.words.specs.Answer.{if◌then◌else◌}
 use Rattle.machine.specs.Registers.{reg}
 use Rattle.machine.specs.declared.Regs.{Regs}
@@ -14,7 +14,7 @@ width x = if ltb x 16 then 4 else 8
 
 -- what the stack holds of a register at an address, of a d register the lower word first
 abbrev pub held : Lent → (at x : ℕ) → ℕ
-held k a x = if ltb x 16 then wordAt k a else wordAt k a + 2 ^ 32 * wordAt k (a + 4)
+held k a x = if ltb x 16 then word_at k a else word_at k a + 2 ^ 32 * word_at k (a + 4)
 
 -- r4-r11, LR, d8-d15: those that must last, since the caller has them back (RULES 10.4)
 abbrev pub Lasting : ℕ → Type 0

@@ -2,7 +2,7 @@
 -- have saved.
 use Rattle.std.specs.Prelude.{ℕ, zero, suc, ◌+◌, ◌-◌, ◌≡◌, ◌⊎◌, List, [], ◌∷◌, ◌++◌}
 use Rattle.words.specs.Bits.{bit}
-use Rattle.words.specs.Units.{stackBytes}
+use Rattle.words.specs.Units.{stack_bytes}
 use Rattle.words.specs.Answer.{if◌then◌else◌}
 use Rattle.codes.specs.declared.Code.{Code}
 use Rattle.codes.specs.declared.Undo.{Undo}
@@ -34,11 +34,11 @@ bytes (x ∷ xs) = width x + bytes xs
 
 -- the bytes by which SP falls
 abbrev pub falls : Undo → ℕ
-falls (Up n) = stackBytes n
+falls (Up n) = stack_bytes n
 falls (Pop l) = bytes (saves (Pop l))
 falls (SpFrom x) = 0
 falls (Vpop s e) = bytes (saves (Vpop s e))
-falls (LoadLr n) = stackBytes n
+falls (LoadLr n) = stack_bytes n
 falls Nothing = 0
 
 abbrev pub Among : ℕ → List ℕ → Type 0

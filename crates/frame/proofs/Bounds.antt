@@ -25,14 +25,14 @@ use Rattle.unwinding.proofs.Scanning.{scan-length}
 use Rattle.codes.proofs.Scanning.{takes}
 use Rattle.machine.specs.declared.Regs.{Regs}
 use Rattle.machine.specs.Step.{stands}
-use Rattle.machine.specs.as_coded.Run.{run_at}
+use Rattle.machine.specs.AsCoded.Run.{run_at}
 use Rattle.pdata.specs.declared.Entry.{Entry}
 use Rattle.pdata.specs.Pdata.{find}
-use Rattle.xdata.specs.Xdata.{fitXdata}
+use Rattle.xdata.specs.Xdata.{fit_xdata}
 use Rattle.record.specs.Record.{shape_of}
-use Rattle.frame.specs.Frame.{Inputs, Caller, fitStack, returned, leafOf, uncovered, within, byRecord, afterFind, frame_of}
-use Rattle.frame.specs.as_coded.FromPlace.{finish, placedFrom}
-use Rattle.frame.proofs.Within.{spotIn, within-placed}
+use Rattle.frame.specs.Frame.{Inputs, Caller, fit_stack, returned, leaf_of, uncovered, within, by_record, after_find, frame_of}
+use Rattle.frame.specs.AsCoded.FromPlace.{finish, placed_from}
+use Rattle.frame.proofs.Within.{spot_in, within-placed}
 
 -- what a frame keeps
 record Kept (g : Regs) (c : Caller) : Type 0 where
@@ -41,12 +41,12 @@ record Kept (g : Regs) (c : Caller) : Type 0 where
 
 kept-uncovered : (first : Bool) (g : Regs) (c : Caller) → uncovered first g ≡ ok c → Kept g c
 kept-uncovered true g c q =
-    let e : leafOf g ≡ c = ok_same (leafOf g) c q in
+    let e : leaf_of g ≡ c = ok_same (leaf_of g) c q in
     record { sp = omega (arith, ap (λ y. y.regs.sp) e); codes = omega (arith, ap (λ y. y.codes) e) }
 kept-uncovered false g c q = absurd (let z : ◌≡◌ {A = ℕ} 0 1 = cc in omega arith)
 
 kept_from :
-    (k : Lent) (s : List ℕ) (hd : ℕ) (g : Regs) (p : Place) (i : CodeBytes) (v : Verdict) (c : Caller) → length s ≤ 1020 → placedFrom true k s hd g p i true v ≡ ok c → Kept g c
+    (k : Lent) (s : List ℕ) (hd : ℕ) (g : Regs) (p : Place) (i : CodeBytes) (v : Verdict) (c : Caller) → length s ≤ 1020 → placed_from true k s hd g p i true v ≡ ok c → Kept g c
 kept_from k s hd g p i (Refused r) c n q = absurd (let z : ◌≡◌ {A = ℕ} 0 1 = cc in omega arith)
 kept_from k s hd g p i Given c n q =
     let u = bind_ok (run_at k s i g) (finish hd g p (length (scan s i).list)) c q in
@@ -57,11 +57,11 @@ kept_from k s hd g p i Given c n q =
 
 kept-within : (k : Lent) (s : Shape) (o : ℕ) (g : Regs) (c : Caller) → length s.codes ≤ 1020 → within k s o g ≡ ok c → Kept g c
 kept-within k s o g c n q =
-    let p = spotIn s o in
+    let p = spot_in s o in
     kept_from k s.codes s.handler g p.place p.index p.verdict c n (sym (within-placed true k s o g) ∙ q)
 
-kept_record : (first : Bool) (t : Inputs) (e : Entry) (g : Regs) (c : Caller) → byRecord first t e g ≡ ok c → Kept g c
-unfolding byRecord
+kept_record : (first : Bool) (t : Inputs) (e : Entry) (g : Regs) (c : Caller) → by_record first t e g ≡ ok c → Kept g c
+unfolding by_record
 kept_record first t e g c q =
     let u = bind_ok (shape_of t.xdata e) (λ s. if ltb (even g.pc - t.image - e.start) s.span then within t.stack s (even g.pc - t.image - e.start) g else uncovered first g) c q in
     go u.0 (ltb (even g.pc - t.image - e.start) u.0.span) (shape-few t.xdata e.word u.0 u.1) u.2
@@ -72,20 +72,20 @@ kept_record first t e g c q =
     go s true n h = kept-within t.stack s (even g.pc - t.image - e.start) g c n h
     go s false n h = kept-uncovered first g c h
 
-kept-found : (first : Bool) (t : Inputs) (g : Regs) (x : Res (Option Entry)) (c : Caller) → afterFind first t g x ≡ ok c → Kept g c
+kept-found : (first : Bool) (t : Inputs) (g : Regs) (x : Res (Option Entry)) (c : Caller) → after_find first t g x ≡ ok c → Kept g c
 kept-found first t g x c q =
-    let u = bind_ok x (λ e. need (stands t.stack g.sp) BadStack >> maybe e (uncovered first g) (λ e. byRecord first t e g)) c q in
-    let w = need-ok (stands t.stack g.sp) BadStack (maybe u.0 (uncovered first g) (λ e. byRecord first t e g)) c u.2 in
+    let u = bind_ok x (λ e. need (stands t.stack g.sp) BadStack >> maybe e (uncovered first g) (λ e. by_record first t e g)) c q in
+    let w = need-ok (stands t.stack g.sp) BadStack (maybe u.0 (uncovered first g) (λ e. by_record first t e g)) c u.2 in
     go u.0 w.1
   where
-    go : (e : Option Entry) → maybe e (uncovered first g) (λ e. byRecord first t e g) ≡ ok c → Kept g c
+    go : (e : Option Entry) → maybe e (uncovered first g) (λ e. by_record first t e g) ≡ ok c → Kept g c
     go none h = kept-uncovered first g c h
     go (some e) h = kept_record first t e g c h
 
 kept : (first : Bool) (t : Inputs) (g : Regs) (c : Caller) → frame_of first t g ≡ ok c → Kept g c
 unfolding frame_of
 kept first t g c q =
-    let w = need-ok (fitStack t.stack && fitXdata t.xdata) UnfitInput (afterFind first t g (find t.image t.pdata g.pc)) c q in
+    let w = need-ok (fit_stack t.stack && fit_xdata t.xdata) UnfitInput (after_find first t g (find t.image t.pdata g.pc)) c q in
     kept-found first t g (find t.image t.pdata g.pc) c w.1
 
 pub frame-sp : (first : Bool) (t : Inputs) (g : Regs) (c : Caller) → frame_of first t g ≡ ok c → g.sp ≤ c.regs.sp

@@ -5,7 +5,7 @@ use mathlib.Core.Path.{◌≡◌, refl}
 use mathlib.Core.List.{List, [], ◌∷◌, ◌++◌}
 use lib.ListN.{replicate}
 use Rattle.lent.specs.Lent.{Lent}
-use Rattle.words.specs.Refusals.{verdictNumber}
+use Rattle.words.specs.Refusals.{verdict_number}
 use Rattle.words.specs.declared.Place.TheVariants.{Leaf, Prologue}
 use Rattle.words.specs.Answer.{Res, ok, verdict}
 use Rattle.machine.specs.declared.Regs.{Regs}
@@ -27,7 +27,7 @@ unsorted b =
     record { image = 0x400000; pdata = bytes_of (0x1000 ∷ 0x00910041 ∷ 0x1000 ∷ 0x00910041 ∷ []); xdata = record { base = 0; bytes = [] }; stack = record { base = b; bytes = bytes_of (replicate 8 7) } }
 
 abbrev refusal : Inputs → Regs → ℕ
-refusal t g = verdictNumber (verdict (frame t g))
+refusal t g = verdict_number (verdict (frame t g))
 
 -- 1 before 2, 2 before 3, 3 before 8 of the SP that was given
 first-1 : refusal (unsorted 0x20002) (regs 0x3FFFFE 0x20001 0) ≡ 1

@@ -13,26 +13,26 @@ use Rattle.words.specs.Answer.{Res, if◌then◌else◌, ◌>>=◌}
 use Rattle.unwinding.specs.Shape.{Shape}
 use Rattle.machine.specs.declared.Regs.{Regs}
 use Rattle.record.specs.declared.Plan.{Plan}
-use Rattle.record.specs.as_coded.Plan.{byVerdict, shape_by, picked, codesIn, read_of}
+use Rattle.record.specs.AsCoded.Plan.{by_verdict, shape_by, picked, codes_in, read_of}
 use Rattle.record.proofs.Shapes.{read-shape, read-inside}
-use Rattle.place.specs.as_coded.Placed.{outside, covered, placedBy, anyPlaced}
+use Rattle.place.specs.AsCoded.Placed.{outside, covered, placed_by, any_placed}
 use Rattle.place.proofs.Answered.{picked-codes}
 use Rattle.place.specs.declared.AnyPlaced.{AnyPlaced}
 use Rattle.frame.specs.Frame.{Caller, uncovered, within}
-use Rattle.frame.specs.as_coded.FromPlace.{fromPlaced, by_word}
-use Rattle.frame.proofs.Within.{spotIn, within-placed}
+use Rattle.frame.specs.AsCoded.FromPlace.{from_placed, by_word}
+use Rattle.frame.proofs.Within.{spot_in, within-placed}
 
 module _ (first : Bool) (k : Lent) (g : Regs) (o : ℕ) where
-  abbrev inShape : Shape → Res Caller
-  inShape s = if ltb o s.span then within k s o g else uncovered first g
+  abbrev in_shape : Shape → Res Caller
+  in_shape s = if ltb o s.span then within k s o g else uncovered first g
 
   by-cover :
       (sh : Shape) (t : Bool)
-      → (if t then within k sh o g else uncovered first g) ≡ fromPlaced first k sh.codes g (if t then covered sh.handler (spotIn sh o) else outside)
+      → (if t then within k sh o g else uncovered first g) ≡ from_placed first k sh.codes g (if t then covered sh.handler (spot_in sh o) else outside)
   by-cover sh true = within-placed first k sh o g
   by-cover sh false = refl
 
-  by-verdict : (v : Verdict) (p : Plan) (s x : List ℕ) → (byVerdict v (shape_by p s x) >>= inShape) ≡ fromPlaced first k s g (placedBy v p s x o)
+  by-verdict : (v : Verdict) (p : Plan) (s x : List ℕ) → (by_verdict v (shape_by p s x) >>= in_shape) ≡ from_placed first k s g (placed_by v p s x o)
   by-verdict Given p s x = by-cover (shape_by p s x) (ltb o p.span)
   by-verdict (Refused r) p s x = refl
 
@@ -40,16 +40,16 @@ module _ (first : Bool) (k : Lent) (g : Regs) (o : ℕ) where
     -- from where the offset stands in a record of either kind, with its code bytes
     abbrev from : AnyPlaced → Res Caller
     from q =
-        fromPlaced first k (picked q.written q.bytes x q.codes.start (q.codes.start + q.codes.len - q.codes.start)) g q.at
+        from_placed first k (picked q.written q.bytes x q.codes.start (q.codes.start + q.codes.len - q.codes.start)) g q.at
 
-    pub word-placed : (q : AnyPlaced) → q ≡ anyPlaced (lent b x) w o → from q ≡ by_word first (lent b x) w k o g
+    pub word-placed : (q : AnyPlaced) → q ≡ any_placed (lent b x) w o → from q ≡ by_word first (lent b x) w k o g
     word-placed q is =
         let f = read_of (lent b x) w in
         ap from is
-        ∙ ap (λ s. fromPlaced first k s g (placedBy f.verdict f.plan (codesIn x f) x o)) (picked-codes x f)
-        ∙ sym (ap (λ r. r >>= inShape) (read-shape b x w f refl) ∙ by-verdict f.verdict f.plan (codesIn x f) x)
+        ∙ ap (λ s. from_placed first k s g (placed_by f.verdict f.plan (codes_in x f) x o)) (picked-codes x f)
+        ∙ sym (ap (λ r. r >>= in_shape) (read-shape b x w f refl) ∙ by-verdict f.verdict f.plan (codes_in x f) x)
 
 -- the part of the .xdata that holds the code bytes lies in it
 pub codes-inside :
-    (b : ℕ) (x : List ℕ) (w o : ℕ) (q : AnyPlaced) → q ≡ anyPlaced (lent b x) w o → q.codes.start + q.codes.len ≤ length x
+    (b : ℕ) (x : List ℕ) (w o : ℕ) (q : AnyPlaced) → q ≡ any_placed (lent b x) w o → q.codes.start + q.codes.len ≤ length x
 codes-inside b x w o q is = rw is (read-inside b x w (read_of (lent b x) w) refl)

@@ -12,15 +12,15 @@ use Rattle.unwinding.specs.CodeList.{run}
 use Rattle.unwinding.specs.Shape.{Shape}
 use Rattle.unwinding.specs.View.{view}
 use Rattle.unwinding.specs.Todo.{todo}
-use Rattle.codes.specs.Code.{size, codesAt}
+use Rattle.codes.specs.Code.{size, codes_at}
 use Rattle.codes.specs.Condition.{executing}
 use Rattle.machine.specs.declared.Regs.{Regs}
-use Rattle.machine.specs.Registers.{setPc}
+use Rattle.machine.specs.Registers.{set_pc}
 use Rattle.machine.specs.Step.{stands, step}
 use Rattle.pdata.specs.declared.Entry.{Entry}
 use Rattle.pdata.specs.Pdata.{find}
 use Rattle.pdata.specs.Pdata as Pdata
-use Rattle.xdata.specs.Xdata.{fitXdata}
+use Rattle.xdata.specs.Xdata.{fit_xdata}
 use Rattle.record.specs.Record.{shape_of}
 use Rattle.frame.specs.declared.Unwound.{Unwound}
 use Rattle.pdata.specs.declared.Checked.{Checked}
@@ -36,8 +36,8 @@ abbrev pub inputs : (image : ℕ) → (pdata : List ℕ) → (rva : ℕ) → (xd
 inputs i p r x b k = record { image = i; pdata = p; xdata = lent r x; stack = lent b k }
 
 -- what 1 asks of the stack (RULES 9.1)
-abbrev pub fitStack : Lent → Bool
-fitStack k = eqb (k.base % 4) 0 && eqb (length k.bytes % 4) 0 && leb (end k) (2 ^ 32 - 4)
+abbrev pub fit_stack : Lent → Bool
+fit_stack k = eqb (k.base % 4) 0 && eqb (length k.bytes % 4) 0 && leb (end k) (2 ^ 32 - 4)
 
 -- what a frame that is not refused comes to (RULES 6.1, 6.4 to 6.6)
 pub record Caller : Type 0 where
@@ -48,44 +48,44 @@ pub record Caller : Type 0 where
 
 -- back in the caller: its pc is in LR, which stays as it is (RULES 6.2, 6.3)
 abbrev pub returned : Regs → Regs
-returned g = setPc g (even g.lr)
+returned g = set_pc g (even g.lr)
 
-abbrev pub leafOf : Regs → Caller
-leafOf g = record { regs = returned g; place = Leaf; handler = 0; codes = 0 }
+abbrev pub leaf_of : Regs → Caller
+leaf_of g = record { regs = returned g; place = Leaf; handler = 0; codes = 0 }
 
 -- nothing covers the pc: a leaf in the first frame, 12 in a later one (RULES 5.2, 6.2)
 abbrev pub uncovered : (first : Bool) → Regs → Res Caller
-uncovered true g = ok (leafOf g)
+uncovered true g = ok (leaf_of g)
 uncovered false g = refuse NoRecord
 
 -- at an offset of a function that covers it: the view (6, 7), the place (9, 10), the codes one by one (8), SP at last (11; RULES 6.3)
 unfoldable pub within : (stack : Lent) → Shape → (offset : ℕ) → Regs → Res Caller
 within k s o g = do
-  v ← view size codesAt s
+  v ← view size codes_at s
   t ← todo size executing v o
   h ← run (step k) t.codes g
   need (leb g.sp h.sp) SpFell
   ok (record { regs = returned h; place = t.place; handler = s.handler; codes = length t.codes })
 
 -- by the record found, at the offset of RULES 5.1
-unfoldable pub byRecord : (first : Bool) → Inputs → Entry → Regs → Res Caller
-byRecord first t e g = do
+unfoldable pub by_record : (first : Bool) → Inputs → Entry → Regs → Res Caller
+by_record first t e g = do
   s ← shape_of t.xdata e
   let o = even g.pc - t.image - e.start
   if ltb o s.span then within t.stack s o g else uncovered first g
 
 -- after the search: the SP that was given (8), before the record is read (RULES 9.50)
-abbrev pub afterFind : (first : Bool) → Inputs → Regs → Res (Option Entry) → Res Caller
-afterFind first t g found = do
+abbrev pub after_find : (first : Bool) → Inputs → Regs → Res (Option Entry) → Res Caller
+after_find first t g found = do
   e ← found
   need (stands t.stack g.sp) BadStack
-  maybe e (uncovered first g) (λ e. byRecord first t e g)
+  maybe e (uncovered first g) (λ e. by_record first t e g)
 
 -- the frame, first of a walk (as one by itself is) or later
 unfoldable pub frame_of : (first : Bool) → Inputs → Regs → Res Caller
 frame_of first t g = do
-  need (fitStack t.stack && fitXdata t.xdata) UnfitInput
-  afterFind first t g (find t.image t.pdata g.pc)
+  need (fit_stack t.stack && fit_xdata t.xdata) UnfitInput
+  after_find first t g (find t.image t.pdata g.pc)
 
 abbrev pub frame : Inputs → Regs → Res Caller
 frame t g = frame_of true t g
@@ -99,4 +99,4 @@ unwound g (refuse r) = record { verdict = Refused r; regs = g; place = Leaf; han
 abbrev pub checked : Inputs → Checked
 checked t =
     let c = Pdata.checked t.pdata in
-    record { fit = fitStack t.stack && fitXdata t.xdata && c.fit; sorted = c.sorted }
+    record { fit = fit_stack t.stack && fit_xdata t.xdata && c.fit; sorted = c.sorted }

@@ -3,11 +3,11 @@ ghost use Rattle.std.specs.Prelude.{◌≡◌, ℕ, ◌-◌, List};
 ghost use Rattle.words.specs.Bits.{even};
 ghost use Rattle.lent.specs.Lent.{lent};
 ghost use Rattle.words.specs.Answer.{refuse};
-ghost use Rattle.codes.specs.as_coded.Rows.{rowNumbers};
-ghost use Rattle.machine.specs.as_coded.Answers.{regs};
-ghost use Rattle.frame.specs.Frame.{uncovered as uncoveredOf};
-ghost use Rattle.frame.specs.as_coded.FromPlace.{ranFrom, fromPlaced, by_word};
-ghost use Rattle.frame.specs.as_coded.InPlace.{cameTo};
+ghost use Rattle.codes.specs.AsCoded.Rows.{row_numbers};
+ghost use Rattle.machine.specs.AsCoded.Answers.{regs};
+ghost use Rattle.frame.specs.Frame.{uncovered as uncovered_of};
+ghost use Rattle.frame.specs.AsCoded.FromPlace.{ran_from as spec_ran_from, from_placed as spec_from_placed, by_word};
+ghost use Rattle.frame.specs.AsCoded.InPlace.{came_to};
 
 use super::Came;
 use place::Placed;
@@ -15,7 +15,7 @@ use words::{CodeBytes, Place, Refusal, Verdict};
 
 // A refusal, whatever stands in the lists.
 pub fn refused(why: Refusal) -> Came
-    ensures { (r d : List ℕ) → cameTo result r d ≡ refuse why }
+    ensures { (r d : List ℕ) → came_to result r d ≡ refuse why }
 {
     Came {
         verdict: Verdict::Refused(why),
@@ -29,7 +29,7 @@ pub fn refused(why: Refusal) -> Came
 
 // Nothing covers the pc: a leaf in the first frame, 12 in a later one (RULES 6.2). The lists stay as they are.
 pub fn uncovered(first: bool, sp: u32, lr: u32) -> Came
-    ensures { (r d : List ℕ) (pc : ℕ) → cameTo result r d ≡ uncoveredOf first (regs r sp lr pc d) }
+    ensures { (r d : List ℕ) (pc : ℕ) → came_to result r d ≡ uncovered_of first (regs r sp lr pc d) }
 {
     if first {
         return Came {
@@ -58,8 +58,8 @@ fn ran_from(
     base: u32,
     stack: &[u8],
 ) -> Came
-    requires { t.now ≡ rowNumbers }
-    ensures { (pc : ℕ) → cameTo result r.new d.new ≡ ranFrom (lent base stack.now) codes.now handler (regs r.old sp lr pc d.old) place index }
+    requires { t.now ≡ row_numbers }
+    ensures { (pc : ℕ) → came_to result r.new d.new ≡ spec_ran_from (lent base stack.now) codes.now handler (regs r.old sp lr pc d.old) place index }
 {
     let ran = machine::run_in(t, codes, index, r, d, sp, lr, base, stack);
     let verdict = ran.verdict;
@@ -94,8 +94,8 @@ fn from_placed(
     base: u32,
     stack: &[u8],
 ) -> Came
-    requires { t.now ≡ rowNumbers }
-    ensures { (pc : ℕ) → cameTo result r.new d.new ≡ fromPlaced first (lent base stack.now) codes.now (regs r.old sp lr pc d.old) p }
+    requires { t.now ≡ row_numbers }
+    ensures { (pc : ℕ) → came_to result r.new d.new ≡ spec_from_placed first (lent base stack.now) codes.now (regs r.old sp lr pc d.old) p }
 {
     let verdict = p.verdict;
     let place = p.place;
@@ -141,8 +141,8 @@ pub fn by_word(
     sp: u32,
     lr: u32,
 ) -> Came
-    requires { t.now ≡ rowNumbers }
-    ensures { (pc : ℕ) → cameTo result r.new d.new ≡ by_word first (lent rva xdata.now) word (lent base stack.now) o (regs r.old sp lr pc d.old) }
+    requires { t.now ≡ row_numbers }
+    ensures { (pc : ℕ) → came_to result r.new d.new ≡ by_word first (lent rva xdata.now) word (lent base stack.now) o (regs r.old sp lr pc d.old) }
 {
     let p = place::at(t, rva, xdata, word, o);
     let part = p.codes;

@@ -10,12 +10,12 @@ ghost use Rattle.std.proofs.Math.Option.{Option};
 ghost use Rattle.lent.specs.Lent.{lent};
 ghost use Rattle.words.specs.Answer.{Res};
 ghost use Rattle.pdata.specs.declared.Entry.{Entry};
-ghost use Rattle.pdata.specs.Pdata.{found as foundOf};
-ghost use Rattle.frame.specs.Frame.{inputs, fitStack, checked, unwound, afterFind, frame};
-ghost use Rattle.codes.specs.as_coded.Rows.{rowNumbers};
-ghost use Rattle.machine.specs.as_coded.Answers.{regs};
-ghost use Rattle.frame.specs.as_coded.FromPlace.{Answers};
-ghost use Rattle.frame.specs.as_coded.InPlace.{cameTo, Comes};
+ghost use Rattle.pdata.specs.Pdata.{found as found_of};
+ghost use Rattle.frame.specs.Frame.{inputs, fit_stack as spec_fit_stack, checked, unwound, after_find as spec_after_find, frame};
+ghost use Rattle.codes.specs.AsCoded.Rows.{row_numbers};
+ghost use Rattle.machine.specs.AsCoded.Answers.{regs};
+ghost use Rattle.frame.specs.AsCoded.FromPlace.{Answers};
+ghost use Rattle.frame.specs.AsCoded.InPlace.{came_to, Comes};
 
 use words::{Place, Refusal, Verdict};
 
@@ -43,7 +43,7 @@ pub struct Came {
 
 // What 1 asks of the stack (RULES 9.1).
 fn fit_stack(base: u32, stack: &[u8]) -> bool
-    ensures { result ≡ fitStack (lent base stack.now) }
+    ensures { result ≡ spec_fit_stack (lent base stack.now) }
 {
     base % 4 == 0 && stack.len() % 4 == 0 && (base as u64) + (stack.len() as u64) <= 4294967292
 }
@@ -75,8 +75,8 @@ fn after_find(
     lr: u32,
     pc: u32,
 ) -> Came
-    requires { t.now ≡ rowNumbers }
-    ensures { (p : List ℕ) (x : Res (Option Entry)) → found ≡ foundOf x → cameTo result r.new d.new ≡ afterFind first (inputs image p rva xdata.now base stack.now) (regs r.old sp lr pc d.old) x }
+    requires { t.now ≡ row_numbers }
+    ensures { (p : List ℕ) (x : Res (Option Entry)) → found ≡ found_of x → came_to result r.new d.new ≡ spec_after_find first (inputs image p rva xdata.now base stack.now) (regs r.old sp lr pc d.old) x }
 {
     match found {
         Found::Refused(why) => answer::refused(why),
@@ -114,7 +114,7 @@ pub fn frame_in(
     lr: u32,
     pc: u32,
 ) -> Came
-    requires { t.now ≡ rowNumbers }
+    requires { t.now ≡ row_numbers }
     ensures { Comes first c (inputs image pdata.now rva xdata.now base stack.now) (regs r.old sp lr pc d.old) result r.new d.new }
 {
     if c.fit {
@@ -128,7 +128,7 @@ pub fn frame_in(
 
 // The whole answer of what a frame came to in place. A refusal has the registers as they came (RULES 6.7).
 fn answered(g: Regs, u: Came, r: [u32; 13], d: [u64; 32]) -> Unwound
-    ensures { result ≡ unwound g (cameTo u r d) }
+    ensures { result ≡ unwound g (came_to u r d) }
 {
     let verdict = u.verdict;
     let place = u.place;

@@ -18,5 +18,5 @@ abbrev pub holds : Lent → (at n : ℕ) → Bool
 holds l a n = leb l.base a && leb (a + n) (end l)
 
 -- the word at an address, where its four bytes are lent
-abbrev pub wordAt : Lent → ℕ → ℕ
-wordAt l a = word32 l.bytes (a - l.base)
+abbrev pub word_at : Lent → ℕ → ℕ
+word_at l a = word32 l.bytes (a - l.base)

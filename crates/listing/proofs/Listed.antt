@@ -10,7 +10,7 @@ use Rattle.words.specs.Answer.{ok, refuse}
 use Rattle.walking.specs.Walk.{walk}
 use Rattle.report.specs.Report.{Report, report}
 use Rattle.text.specs.Text.{text}
-use Rattle.listing.specs.Listing.{refusedText, printed, listing}
+use Rattle.listing.specs.Listing.{refused_text, printed, listing}
 use Rattle.text.specs.Overlay.{overlay, Laid}
 use Rattle.text.proofs.Overlaid.{from_start}
 use Rattle.listing.proofs.Sizes.{listing-fits}
@@ -20,7 +20,7 @@ pub listing-given : (s : List ℕ) {p : Report} → report s ≡ ok p → printe
 unfolding listing
 listing-given s e = rw e refl
 
-pub listing-refused : (s : List ℕ) {r : Refusal} → report s ≡ refuse r → refusedText r ++ text "\n" ≡ listing s
+pub listing-refused : (s : List ℕ) {r : Refusal} → report s ≡ refuse r → refused_text r ++ text "\n" ≡ listing s
 unfolding listing
 listing-refused s e = rw e refl
 

@@ -2,8 +2,8 @@
 use Rattle.walking.proofs.Opened as Walking
 use Rattle.text.proofs.Opened as Text
 use Rattle.report.specs.Report.{words32, words64, report}
-use Rattle.listing.specs.Listing.{frameLines, printed, listing}
+use Rattle.listing.specs.Listing.{frame_lines, printed, listing}
 
 unfoldable pub opened : Unit {0}
-unfolding Walking.opened Text.opened words32 words64 report frameLines printed listing
+unfolding Walking.opened Text.opened words32 words64 report frame_lines printed listing
 opened = tt

@@ -8,7 +8,7 @@ use lib.ListN.{length, replicate, set, length-replicate}
 use native.Mathlib.Omega.{arith}
 use Rattle.words.specs.declared.Place.TheVariants.{Leaf}
 use Rattle.words.specs.Answer.{if◌then◌else◌}
-use Rattle.unwinding.specs.as_coded.Turn as Any
+use Rattle.unwinding.specs.AsCoded.Turn as Any
 use Rattle.unwinding.proofs.Turns.{turns}
 use Rattle.unwinding.proofs.Looping.{Midway, less, midway-begins, midway-on, fewer, ended-with}
 use Rattle.machine.specs.declared.Regs.{Regs}
@@ -17,13 +17,13 @@ use Rattle.walking.specs.declared.Frame.{Frame}
 use Rattle.walking.specs.declared.Going.{Going}
 use Rattle.walking.specs.declared.Standing.{Standing}
 use Rattle.walking.specs.Walk.{arm, frames, walk}
-use Rattle.walking.specs.as_coded.InPlace.{stands, SmallIn, Goes}
+use Rattle.walking.specs.AsCoded.InPlace.{stands, SmallIn, Goes}
 use Rattle.walking.proofs.Turns.{bounded}
 use Rattle.text.specs.Text.{text}
 use Rattle.text.specs.Overlay.{Laid}
 use Rattle.text.proofs.Overlaid.{joined, laid_as}
-use Rattle.listing.specs.Listing.{frameLine, frameLines, last_of, lastLine, printed}
-use Rattle.listing.specs.as_coded.Turns.{turnText}
+use Rattle.listing.specs.Listing.{frame_line, frame_lines, last_of, last_line, printed}
+use Rattle.listing.specs.AsCoded.Turns.{turn_text}
 use Rattle.listing.proofs.Lines.{lines-last}
 
 -- a list with the room of the walk, of which the laws of the walk into a list speak
@@ -36,15 +36,15 @@ pub record Halfway (t : Inputs) (g : Regs) (s : Any.Standing arm) (b : List ℕ)
   pub listed : List Frame
   pub list : List Frame
   pub walks : Midway arm (frames t) 1020 g room left s listed list
-  pub laid : Laid b at (frameLines 0 listed) next o
+  pub laid : Laid b at (frame_lines 0 listed) next o
 
 -- and behind the last turn: the walk's lines, and the last one
 abbrev pub Printing : (t : Inputs) (g : Regs) (on : Bool) (s : Any.Standing arm) (b : List ℕ) (at next : ℕ) (o : List ℕ) → Type 0
 Printing t g true s b i n o = Halfway t g s b i n o
-Printing t g false s b i n o = Laid b i (frameLines 0 (walk t 256 g).frames ++ lastLine (walk t 256 g)) n o
+Printing t g false s b i n o = Laid b i (frame_lines 0 (walk t 256 g).frames ++ last_line (walk t 256 g)) n o
 
 pub printing-begins : (t : Inputs) (s : Any.Standing arm) (b : List ℕ) (i : ℕ) → s ≡ Any.begun arm s.at → Laid b i [] i b → Halfway t s.at s b i i b
-unfolding frameLines
+unfolding frame_lines
 printing-begins t s b i e h = record {
   left = 256;
   listed = [];
@@ -54,7 +54,7 @@ printing-begins t s b i e h = record {
 }
 
 -- behind the heading it is the walk printed
-pub printing-headed : (t : Inputs) (g : Regs) {b o o' : List ℕ} {i n : ℕ} → Laid b 0 (text "frame pc sp place\n") i o → Laid o i (frameLines 0 (walk t 256 g).frames ++ lastLine (walk t 256 g)) n o' → Laid b 0 (printed (walk t 256 g)) n o'
+pub printing-headed : (t : Inputs) (g : Regs) {b o o' : List ℕ} {i n : ℕ} → Laid b 0 (text "frame pc sp place\n") i o → Laid o i (frame_lines 0 (walk t 256 g).frames ++ last_line (walk t 256 g)) n o' → Laid b 0 (printed (walk t 256 g)) n o'
 unfolding printed
 printing-headed t g h k = joined h k
 
@@ -68,7 +68,7 @@ module _ (t : Inputs) (g : Regs) (p : Standing) (r d : List ℕ) {b : List ℕ} 
   abbrev T : Any.Turn arm
   T = Any.turn_of arm (frames t) 256 s
 
-  printing-on : {m : ℕ} {u : List ℕ} → x.on ≡ true → Laid o n (turnText p x) m u → Halfway t g (stands x.next a e) b f m u
+  printing-on : {m : ℕ} {u : List ℕ} → x.on ≡ true → Laid o n (turn_text p x) m u → Halfway t g (stands x.next a e) b f m u
   printing-on {m = m} {u = u} on l =
       let q : T.on ≡ true = sym k.on ∙ on in
       let w = midway-on arm (frames t) 1020 h.walks T (turns arm (frames t) 256 s) q (bounded t) in
@@ -78,7 +78,7 @@ module _ (t : Inputs) (g : Regs) (p : Standing) (r d : List ℕ) {b : List ℕ} 
         listed = h.listed ++ (x.frame ∷ []);
         list = set h.list p.frames x.frame;
         walks = rw (k.next on, k.frame) w;
-        laid = laid_as (ap (λ j. frameLines 0 h.listed ++ frameLine j x.frame) i ∙ lines-last 0 h.listed x.frame) (joined h.laid (rw on at l));
+        laid = laid_as (ap (λ j. frame_lines 0 h.listed ++ frame_line j x.frame) i ∙ lines-last 0 h.listed x.frame) (joined h.laid (rw on at l));
       }
 
   printing-less : x.on ≡ true → 256 - x.next.frames < 256 - p.frames
@@ -89,13 +89,13 @@ module _ (t : Inputs) (g : Regs) (p : Standing) (r d : List ℕ) {b : List ℕ} 
       let i : (stands x.next a e).frames ≡ T.next.frames = ap (λ (z : Any.Standing arm). z.frames) (k.next on) in
       omega (arith, w.room, h.walks.room, f, i)
 
-  printing-ends : {m : ℕ} {u : List ℕ} → x.on ≡ false → Laid o n (turnText p x) m u → Laid b f (frameLines 0 (walk t 256 g).frames ++ lastLine (walk t 256 g)) m u
+  printing-ends : {m : ℕ} {u : List ℕ} → x.on ≡ false → Laid o n (turn_text p x) m u → Laid b f (frame_lines 0 (walk t 256 g).frames ++ last_line (walk t 256 g)) m u
   printing-ends {m = m} {u = u} off l =
       let w = ended-with arm (frames t) 1020 h.walks T (turns arm (frames t) 256 s) (sym k.on ∙ off) in
-      rw w (laid_as (ap (λ i. frameLines 0 h.listed ++ last_of T.stop i p.codes) (sym h.walks.many)) (joined h.laid (rw k.stop at (rw off at l))))
+      rw w (laid_as (ap (λ i. frame_lines 0 h.listed ++ last_of T.stop i p.codes) (sym h.walks.many)) (joined h.laid (rw k.stop at (rw off at l))))
 
   -- either way
-  pub printing-turn : {m : ℕ} {u : List ℕ} → Laid o n (turnText p x) m u → Printing t g x.on (stands x.next a e) b f m u
+  pub printing-turn : {m : ℕ} {u : List ℕ} → Laid o n (turn_text p x) m u → Printing t g x.on (stands x.next a e) b f m u
   printing-turn {m = m} {u = u} l = go x.on refl
     where
       go : (y : Bool) → x.on ≡ y → Printing t g x.on (stands x.next a e) b f m u

@@ -1,2 +1,2 @@
 pub mod Listing
-pub mod as_coded
+pub mod AsCoded

@@ -5,9 +5,9 @@ ghost use Rattle.frame.specs.Frame.{inputs};
 ghost use Rattle.walking.specs.Walk.{walk};
 ghost use Rattle.text.specs.Text.{text};
 ghost use Rattle.text.specs.Overlay.{overlay, Laid};
-ghost use Rattle.report.specs.as_coded.Parts.{inputsIn, Lie};
-ghost use Rattle.listing.specs.Listing.{placeName, refusedText, stopText, frameLine, last_of, printed, listing};
-ghost use Rattle.listing.specs.as_coded.Turns.{turnText};
+ghost use Rattle.report.specs.AsCoded.Parts.{inputs_in, Lie};
+ghost use Rattle.listing.specs.Listing.{place_name, refused_text, stop_text, frame_line, last_of, printed, listing};
+ghost use Rattle.listing.specs.AsCoded.Turns.{turn_text};
 
 use machine::Regs;
 use report::{Parts, read_report};
@@ -20,7 +20,7 @@ pub const LISTING_BYTES: usize = 8192;
 
 // The name of a place, and a byte after it.
 pub fn put_place(out: &mut [u8], at: usize, place: Place, after: u8) -> usize
-    ensures { Laid out.old at (text (placeName place) ++ (after ∷ [])) result out.new }
+    ensures { Laid out.old at (text (place_name place) ++ (after ∷ [])) result out.new }
 {
     match place {
         Place::Leaf => put_word(out, at, b"leaf", after),
@@ -32,7 +32,7 @@ pub fn put_place(out: &mut [u8], at: usize, place: Place, after: u8) -> usize
 
 // `refused R`.
 pub fn put_refused(out: &mut [u8], at: usize, refusal: Refusal) -> usize
-    ensures { Laid out.old at (refusedText refusal) result out.new }
+    ensures { Laid out.old at (refused_text refusal) result out.new }
 {
     let number = words::number(refusal);
     put_count(out, at, b"refused ", number as u64)
@@ -40,7 +40,7 @@ pub fn put_refused(out: &mut [u8], at: usize, refusal: Refusal) -> usize
 
 // `refused R at PC`.
 fn put_refused_at(out: &mut [u8], at: usize, refusal: Refusal, pc: u32) -> usize
-    ensures { Laid out.old at (stopText (Stop.Refused refusal pc)) result out.new }
+    ensures { Laid out.old at (stop_text (Stop.Refused refusal pc)) result out.new }
 {
     let next = put_refused(out, at, refusal);
     let next = put_text(out, next, b" at ");
@@ -49,7 +49,7 @@ fn put_refused_at(out: &mut [u8], at: usize, refusal: Refusal, pc: u32) -> usize
 
 // Why the walk stopped.
 fn put_stop(out: &mut [u8], at: usize, stop: Stop) -> usize
-    ensures { Laid out.old at (stopText stop) result out.new }
+    ensures { Laid out.old at (stop_text stop) result out.new }
 {
     match stop {
         Stop::End => put_text(out, at, b"end"),
@@ -60,7 +60,7 @@ fn put_stop(out: &mut [u8], at: usize, stop: Stop) -> usize
 
 // The line of the frame with this number.
 fn put_frame(out: &mut [u8], at: usize, number: usize, frame: Frame) -> usize
-    ensures { Laid out.old at (frameLine number frame) result out.new }
+    ensures { Laid out.old at (frame_line number frame) result out.new }
 {
     let place = frame.place;
     let next = put_decimal(out, at, number as u64);
@@ -80,7 +80,7 @@ fn put_last(out: &mut [u8], at: usize, stop: Stop, frames: usize, codes: usize) 
 
 // What a turn of the walk prints: the frame's line, or the last one.
 pub fn put_turn(out: &mut [u8], at: usize, s: Standing, x: Going) -> usize
-    ensures { Laid out.old at (turnText s x) result out.new }
+    ensures { Laid out.old at (turn_text s x) result out.new }
 {
     let stop = x.stop;
     let frame = x.frame;
@@ -124,7 +124,7 @@ fn put_walk(
 // The walk over a report's parts.
 fn list_parts(file: &[u8], p: Parts, out: &mut [u8]) -> usize
     requires { Lie file.now p }
-    ensures { Laid out.old 0 (printed (walk (inputsIn file.now p) 256 p.regs)) result out.new }
+    ensures { Laid out.old 0 (printed (walk (inputs_in file.now p) 256 p.regs)) result out.new }
 {
     let pdata = p.pdata;
     let xdata = p.xdata;
@@ -145,7 +145,7 @@ fn list_parts(file: &[u8], p: Parts, out: &mut [u8]) -> usize
 
 // `refused R` alone on its line.
 pub fn put_refusal(out: &mut [u8], refusal: Refusal) -> usize
-    ensures { Laid out.old 0 (refusedText refusal ++ text "\n") result out.new }
+    ensures { Laid out.old 0 (refused_text refusal ++ text "\n") result out.new }
 {
     let next = put_refused(out, 0, refusal);
     put_byte(out, next, b'\n')

@@ -7,7 +7,7 @@ use Rattle.words.specs.declared.Refusal.{Refusal}
 use Rattle.words.specs.declared.Verdict.{Verdict}
 use Rattle.words.specs.declared.Verdict.TheVariants.{Given, Refused}
 use Rattle.words.specs.Answer.{Res, ok, refuse, ◌>>=◌}
-use Rattle.machine.specs.as_coded.Answers.{loaded, loadedTwo, came}
+use Rattle.machine.specs.AsCoded.Answers.{loaded, loaded_two, came}
 use Rattle.machine.specs.declared.Loaded.TheVariants as Loads
 use Rattle.machine.specs.declared.LoadedTwo.TheVariants as Two
 use Rattle.machine.specs.declared.Regs.{Regs}
@@ -21,13 +21,13 @@ pub loaded-refused : (x : Res ℕ) (r : Refusal) → loaded x ≡ Loads.Refused 
 loaded-refused (ok v) r e = absurd (let z : ◌≡◌ {A = ℕ} 0 1 = cc in omega arith)
 loaded-refused (refuse q) r e = cc
 
-pub two-words : (x y : Res ℕ) (l h : ℕ) → loadedTwo x y ≡ Two.Words l h → (x ≡ ok l) × (y ≡ ok h)
+pub two-words : (x y : Res ℕ) (l h : ℕ) → loaded_two x y ≡ Two.Words l h → (x ≡ ok l) × (y ≡ ok h)
 two-words (ok a) (ok b) l h e = (cc, cc)
 two-words (ok a) (refuse r) l h e = absurd (let z : ◌≡◌ {A = ℕ} 0 1 = cc in omega arith)
 two-words (refuse r) y l h e = absurd (let z : ◌≡◌ {A = ℕ} 0 1 = cc in omega arith)
 
 pub two-refused :
-    (x y : Res ℕ) (r : Refusal) → loadedTwo x y ≡ Two.Refused r → {A : Type 0} (f : ℕ → ℕ → Res A) → (x >>= λ l. y >>= λ h. f l h) ≡ refuse r
+    (x y : Res ℕ) (r : Refusal) → loaded_two x y ≡ Two.Refused r → {A : Type 0} (f : ℕ → ℕ → Res A) → (x >>= λ l. y >>= λ h. f l h) ≡ refuse r
 two-refused (ok a) (ok b) r e f = absurd (let z : ◌≡◌ {A = ℕ} 0 1 = cc in omega arith)
 two-refused (ok a) (refuse q) r e f = cc
 two-refused (refuse q) y r e f = cc

@@ -9,7 +9,7 @@ use lib.ListN.{length}
 use native.Mathlib.Omega.{arith}
 use borrow.Author.Tests.{leb-true, le-leb}
 use Rattle.words.proofs.Tests.{both}
-use Rattle.lent.specs.Lent.{Lent, lent, end, holds, wordAt}
+use Rattle.lent.specs.Lent.{Lent, lent, end, holds, word_at}
 use Rattle.lent.specs.Little.{word32}
 use Rattle.words.specs.declared.Refusal.TheVariants.{BadStack}
 use Rattle.words.specs.Answer.{ok, refuse, need, ◌>>◌}
@@ -24,7 +24,7 @@ module _ (k : Lent) (a n : ℕ) where
   holding p q = rw (le-leb _ _ p, le-leb _ _ q) refl
 
 module _ (k : Lent) (a : ℕ) where
-  pub load-held : holds k a 4 ≡ true → load k a ≡ ok (wordAt k a)
+  pub load-held : holds k a 4 ≡ true → load k a ≡ ok (word_at k a)
   unfolding load
   load-held e = rw e refl
 

@@ -10,13 +10,13 @@ use native.Mathlib.Numerals.{add-one}
 use native.Mathlib.Omega.{arith}
 use Rattle.words.specs.Bits.{bit}
 use Rattle.lent.specs.Lent.{Lent}
-use Rattle.words.specs.Units.{stackBytes}
+use Rattle.words.specs.Units.{stack_bytes}
 use Rattle.words.specs.declared.StackWords.{StackWords}
 use Rattle.words.specs.declared.Refusal.{Refusal}
 use Rattle.words.specs.Answer.{Res, ok, refuse, ◌>>=◌, if◌then◌else◌}
 use Rattle.codes.specs.declared.Undo.TheVariants.{LoadLr}
-use Rattle.machine.specs.Step.{load, popReg, popD, pop, vpop, effect}
-use Rattle.machine.specs.as_coded.Answers.{loadedTwo, regs}
+use Rattle.machine.specs.Step.{load, pop_reg, pop_d, pop, vpop, effect}
+use Rattle.machine.specs.AsCoded.Answers.{loaded_two, regs}
 use Rattle.machine.specs.declared.LoadedTwo.TheVariants as Two
 use Rattle.machine.specs.declared.Regs.{Regs}
 use Rattle.machine.proofs.Answers.{two-refused}
@@ -40,7 +40,7 @@ module _ {S : Type 0} (after : ℕ → Res S) (turn : ℕ → S → Res S) (next
 
 -- a pop of a list, and of d registers, are such turns
 abbrev pub listed : Lent → (list x : ℕ) → Regs → Res Regs
-listed k l x h = if bit x l then popReg k x h else ok h
+listed k l x h = if bit x l then pop_reg k x h else ok h
 
 pub pop-none : (k : Lent) (l : ℕ) (g : Regs) → pop k l 0 g ≡ ok g
 unfolding pop
@@ -55,7 +55,7 @@ module _ (k : Lent) (l x : ℕ) (r : List ℕ) (at lr pc : ℕ) (d : List ℕ) w
   pub listed-word :
       (w : ℕ) (r' : List ℕ) (at' lr' : ℕ) → bit x l ≡ true → load k at ≡ ok w → r' ≡ set r x w → at' ≡ at + 4
       → lr' ≡ (if eqb x 14 then w else lr) → listed k l x (regs r at lr pc d) ≡ ok (regs r' at' lr' pc d)
-  unfolding popReg
+  unfolding pop_reg
   listed-word w r' at' lr' b e p q s = simp (b, e, p, q, s)
 
   pub listed-not :
@@ -64,32 +64,32 @@ module _ (k : Lent) (l x : ℕ) (r : List ℕ) (at lr pc : ℕ) (d : List ℕ) w
   listed-not r' at' lr' b p q s = simp (b, p, q, s)
 
   pub listed-refused : (q : Refusal) → bit x l ≡ true → load k at ≡ refuse q → listed k l x (regs r at lr pc d) ≡ refuse q
-  unfolding popReg
+  unfolding pop_reg
   listed-refused q b e = simp (b, e)
 
 pub vpop-none : (k : Lent) (x : ℕ) (g : Regs) → vpop k x 0 g ≡ ok g
 unfolding vpop
 vpop-none k x g = refl
 
-pub vpop-next : (k : Lent) (x : ℕ) (g : Regs) (n : ℕ) → vpop k x (suc n) g ≡ (vpop k x n g >>= λ h. popD k (x + n) h)
+pub vpop-next : (k : Lent) (x : ℕ) (g : Regs) (n : ℕ) → vpop k x (suc n) g ≡ (vpop k x n g >>= λ h. pop_d k (x + n) h)
 unfolding vpop
 vpop-next k x g n = refl
 
 module _ (k : Lent) (x : ℕ) (r : List ℕ) (at lr pc : ℕ) (d : List ℕ) where
   pub d-words :
       (low high : ℕ) (d' : List ℕ) → load k at ≡ ok low → load k (at + 4) ≡ ok high → d' ≡ set d x (low + 2 ^ 32 * high)
-      → popD k x (regs r at lr pc d) ≡ ok (regs r (at + 8) lr pc d')
-  unfolding popD
+      → pop_d k x (regs r at lr pc d) ≡ ok (regs r (at + 8) lr pc d')
+  unfolding pop_d
   d-words low high d' e f p = simp (e, f, p)
 
-  pub d-refused : (q : Refusal) → loadedTwo (load k at) (load k (at + 4)) ≡ Two.Refused q → popD k x (regs r at lr pc d) ≡ refuse q
-  unfolding popD
+  pub d-refused : (q : Refusal) → loaded_two (load k at) (load k (at + 4)) ≡ Two.Refused q → pop_d k x (regs r at lr pc d) ≡ refuse q
+  unfolding pop_d
   d-refused q e = two-refused (load k at) (load k (at + 4)) q e _
 
 -- LR by its own code
 module _ (k : Lent) (n : StackWords) (r : List ℕ) (sp lr pc : ℕ) (d : List ℕ) where
   pub lr-word :
-      (w m : ℕ) (r' : List ℕ) (lr' : ℕ) → load k sp ≡ ok w → m ≡ stackBytes n → r' ≡ set r 14 w → lr' ≡ w
+      (w m : ℕ) (r' : List ℕ) (lr' : ℕ) → load k sp ≡ ok w → m ≡ stack_bytes n → r' ≡ set r 14 w → lr' ≡ w
       → ok (regs r' (sp + m) lr' pc d) ≡ effect k (LoadLr n) (regs r sp lr pc d)
   lr-word w m r' lr' e p q s = simp (e, p, q, s)
 

@@ -11,7 +11,7 @@ use Rattle.lent.specs.Lent.{Lent, holds}
 use Rattle.codes.specs.declared.Code.{Code}
 use Rattle.codes.specs.declared.Undo.{Undo}
 use Rattle.codes.specs.declared.Undo.TheVariants.{Up, Pop, SpFrom, Vpop, LoadLr, Nothing}
-use Rattle.machine.specs.Step.{stands, load, popReg, popD, pop, vpop, effect, step}
+use Rattle.machine.specs.Step.{stands, load, pop_reg, pop_d, pop, vpop, effect, step}
 use Rattle.machine.specs.declared.Regs.{Regs}
 
 abbrev Only : {A : Type 0} → Res A → Type 0
@@ -31,8 +31,8 @@ module _ (k : Lent) where
   unfolding load
   load-only a = needed (holds k a 4) _ tt
 
-  listed-only : (b : Bool) (x : ℕ) (h : Regs) → Only (if b then popReg k x h else ok h)
-  unfolding popReg
+  listed-only : (b : Bool) (x : ℕ) (h : Regs) → Only (if b then pop_reg k x h else ok h)
+  unfolding pop_reg
   listed-only true x h = bound (load k h.sp) _ (load-only h.sp) (λ w. tt)
   listed-only false x h = tt
 
@@ -41,8 +41,8 @@ module _ (k : Lent) where
   pop-only l zero g = tt
   pop-only l (suc n) g = bound (pop k l n g) _ (pop-only l n g) (λ h. listed-only (bit n l) n h)
 
-  d-only : (x : ℕ) (h : Regs) → Only (popD k x h)
-  unfolding popD
+  d-only : (x : ℕ) (h : Regs) → Only (pop_d k x h)
+  unfolding pop_d
   d-only x h = bound (load k h.sp) _ (load-only h.sp) (λ w. bound (load k (h.sp + 4)) _ (load-only (h.sp + 4)) (λ v. tt))
 
   vpop-only : (x n : ℕ) (g : Regs) → Only (vpop k x n g)

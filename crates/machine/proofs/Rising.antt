@@ -12,10 +12,10 @@ use borrow.Author.Tests.{eqb-true, eqb-false}
 use Rattle.words.specs.Bits.{bit}
 use Rattle.words.specs.declared.Refusal.TheVariants.{BadStack}
 use Rattle.words.specs.Answer.{Res, ok, refuse, ◌>>=◌}
-use Rattle.lent.specs.Lent.{Lent, holds, wordAt}
-use Rattle.machine.specs.Registers.{reg, setReg, setSp}
-use Rattle.machine.specs.Step.{popReg, pop}
-use Rattle.machine.specs.as_coded.Listed.{wordsListed}
+use Rattle.lent.specs.Lent.{Lent, holds, word_at}
+use Rattle.machine.specs.Registers.{reg, set_reg, set_sp}
+use Rattle.machine.specs.Step.{pop_reg, pop}
+use Rattle.machine.specs.AsCoded.Listed.{words_listed}
 use Rattle.machine.specs.declared.Regs.{Regs}
 use Rattle.machine.proofs.Loading.{load-held, load-none}
 use Rattle.machine.proofs.Listed.{words-none, words-with, words-without}
@@ -25,9 +25,9 @@ use Rattle.machine.proofs.Written.{Placed, reg_same, reg-other}
 module _ (k : Lent) (l : ℕ) (g : Regs) where
   -- after the registers below n
   pub record Popped (n : ℕ) (h : Regs) : Type 0 where
-    pub sp : h.sp ≡ g.sp + 4 * wordsListed l n
+    pub sp : h.sp ≡ g.sp + 4 * words_listed l n
     pub long : length h.r ≡ length g.r
-    pub taken : (x : ℕ) → x < n → bit x l ≡ true → Placed g x → reg h x ≡ wordAt k (g.sp + 4 * wordsListed l x)
+    pub taken : (x : ℕ) → x < n → bit x l ≡ true → Placed g x → reg h x ≡ word_at k (g.sp + 4 * words_listed l x)
     pub kept : (x : ℕ) → bit x l ≡ false → reg h x ≡ reg g x
     pub rest : (h.pc ≡ g.pc) × (h.d ≡ g.d)
 
@@ -49,34 +49,34 @@ module _ (k : Lent) (l : ℕ) (g : Regs) where
       }
 
   abbrev after : Regs → (x : ℕ) → Regs
-  after h x = setSp (setReg h x (wordAt k h.sp)) (h.sp + 4)
+  after h x = set_sp (set_reg h x (word_at k h.sp)) (h.sp + 4)
 
   took : (n : ℕ) (h : Regs) → Popped n h → bit n l ≡ true → Popped (suc n) (after h n)
   took n h p b =
       record {
         sp = omega (arith, p.sp, words-with l n b);
-        long = length-set h.r n (wordAt k h.sp) ∙ p.long;
+        long = length-set h.r n (word_at k h.sp) ∙ p.long;
         taken = λ x u c q. go x u c q (eqb x n) refl;
-        kept = λ x c. reg-other h n x (wordAt k h.sp) (λ (e : x ≡ n). apart n x b c (sym e)) ∙ p.kept x c;
+        kept = λ x c. reg-other h n x (word_at k h.sp) (λ (e : x ≡ n). apart n x b c (sym e)) ∙ p.kept x c;
         rest = p.rest;
       }
     where
       go :
           (x : ℕ) → x < suc n → bit x l ≡ true → Placed g x → (t : Bool) → eqb x n ≡ t
-          → reg (after h n) x ≡ wordAt k (g.sp + 4 * wordsListed l x)
+          → reg (after h n) x ≡ word_at k (g.sp + 4 * words_listed l x)
       go x u c q true e =
           let same = eqb-true x n e in
-          rw same (reg_same h n (wordAt k h.sp) (λ f. rw p.long (rw same at q f)) ∙ ap (wordAt k) p.sp)
+          rw same (reg_same h n (word_at k h.sp) (λ f. rw p.long (rw same at q f)) ∙ ap (word_at k) p.sp)
       go x u c q false e =
           let other = eqb-false x n e in
-          reg-other h n x (wordAt k h.sp) other ∙ p.taken x (omega (arith, other)) c q
+          reg-other h n x (word_at k h.sp) other ∙ p.taken x (omega (arith, other)) c q
 
-  reg-held : (i : Regs) (n : ℕ) → holds k i.sp 4 ≡ true → popReg k n i ≡ ok (after i n)
-  unfolding popReg
+  reg-held : (i : Regs) (n : ℕ) → holds k i.sp 4 ≡ true → pop_reg k n i ≡ ok (after i n)
+  unfolding pop_reg
   reg-held i n w = rw (load-held k i.sp w) refl
 
-  reg-refused : (i : Regs) (n : ℕ) → holds k i.sp 4 ≡ false → popReg k n i ≡ refuse BadStack
-  unfolding popReg
+  reg-refused : (i : Regs) (n : ℕ) → holds k i.sp 4 ≡ false → pop_reg k n i ≡ refuse BadStack
+  unfolding pop_reg
   reg-refused i n w = rw (load-none k i.sp w) refl
 
   pub pop-rising : (n : ℕ) (h : Regs) → pop k l n g ≡ ok h → Popped n h

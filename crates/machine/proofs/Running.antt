@@ -16,12 +16,12 @@ use Rattle.unwinding.specs.CodeList.{Codes, run}
 use Rattle.words.proofs.Answers.{bind_assoc, bind-same}
 use Rattle.unwinding.proofs.Running.{run-empty, run_step}
 use Rattle.unwinding.specs.Taking.{Scan}
-use Rattle.codes.specs.Code.{takeAt, scan, codesAt}
+use Rattle.codes.specs.Code.{take_at, scan, codes_at}
 use Rattle.codes.specs.declared.Code.{Code}
 use Rattle.codes.specs.declared.Taken.TheVariants.{One, Last, Bad}
 use Rattle.codes.proofs.Scanning.{scan-by}
 use Rattle.machine.specs.Step.{step}
-use Rattle.machine.specs.as_coded.Run.{run_at}
+use Rattle.machine.specs.AsCoded.Run.{run_at}
 use Rattle.machine.specs.declared.Regs.{Regs}
 
 -- the codes of a scan, and then its end
@@ -30,34 +30,34 @@ through k g z = run (step k) z.list g >>= λ h. z.ending >> ok h
 
 module _ (k : Lent) (s : List ℕ) (i : CodeBytes) (g : Regs) where
   -- a run is its first code, and a run of those behind it (RULES 3.15)
-  pub run-first : (c : Code) (next : CodeBytes) → takeAt s i ≡ One c next → run_at k s i g ≡ (step k c g >>= λ h. run_at k s next h)
+  pub run-first : (c : Code) (next : CodeBytes) → take_at s i ≡ One c next → run_at k s i g ≡ (step k c g >>= λ h. run_at k s next h)
   unfolding run_at
   run-first c next e =
       ap (through k g) (scan-by s i e)
       ∙ ap (λ x. x >>= λ h. (scan s next).ending >> ok h) (run_step (step k) c (scan s next).list g)
       ∙ bind_assoc (step k c g) (λ t. run (step k) (scan s next).list t) (λ h. (scan s next).ending >> ok h)
 
-  pub first-given : (c : Code) (next : CodeBytes) (h : Regs) → takeAt s i ≡ One c next → step k c g ≡ ok h → run_at k s i g ≡ run_at k s next h
+  pub first-given : (c : Code) (next : CodeBytes) (h : Regs) → take_at s i ≡ One c next → step k c g ≡ ok h → run_at k s i g ≡ run_at k s next h
   first-given c next h e f = run-first c next e ∙ ap (λ x. x >>= λ t. run_at k s next t) f
 
-  pub first-refused : (c : Code) (next : CodeBytes) (r : Refusal) → takeAt s i ≡ One c next → step k c g ≡ refuse r → run_at k s i g ≡ refuse r
+  pub first-refused : (c : Code) (next : CodeBytes) (r : Refusal) → take_at s i ≡ One c next → step k c g ≡ refuse r → run_at k s i g ≡ refuse r
   first-refused c next r e f = run-first c next e ∙ ap (λ x. x >>= λ t. run_at k s next t) f
 
-  pub run-last : (n : Halfwords) → takeAt s i ≡ Last n → run_at k s i g ≡ ok g
+  pub run-last : (n : Halfwords) → take_at s i ≡ Last n → run_at k s i g ≡ ok g
   unfolding run_at
   run-last n e = ap (through k g) (scan-by s i e) ∙ rw (run-empty (step k) g) refl
 
-  pub run-bad : (j : CodeBytes) → takeAt s i ≡ Bad j → run_at k s i g ≡ refuse (BadCodes j)
+  pub run-bad : (j : CodeBytes) → take_at s i ≡ Bad j → run_at k s i g ≡ refuse (BadCodes j)
   unfolding run_at
   run-bad j e = ap (through k g) (scan-by s i e) ∙ rw (run-empty (step k) g) refl
 
 -- the count of the codes goes the same way
 pub count-first :
-    (s : List ℕ) (i : CodeBytes) (c : Code) (next : CodeBytes) → takeAt s i ≡ One c next
+    (s : List ℕ) (i : CodeBytes) (c : Code) (next : CodeBytes) → take_at s i ≡ One c next
     → length (scan s i).list ≡ length (scan s next).list + 1
 count-first s i c next e = ap (λ z. length z.list) (scan-by s i e) ∙ sym (add-one _)
 
-pub count-last : (s : List ℕ) (i : CodeBytes) (n : Halfwords) → takeAt s i ≡ Last n → length (scan s i).list ≡ 0
+pub count-last : (s : List ℕ) (i : CodeBytes) (n : Halfwords) → take_at s i ≡ Last n → length (scan s i).list ≡ 0
 count-last s i n e = ap (λ z. length z.list) (scan-by s i e)
 
 -- where the code bytes hold a whole code list, running them is running the list
@@ -66,12 +66,12 @@ bind_ok (ok a) = refl
 bind_ok (refuse r) = refl
 
 whole :
-    (l : List Code) (x : Res ℕ) (c : Codes Code) → (x >>= λ n. ok (record { list = l; endSize = n })) ≡ ok c
+    (l : List Code) (x : Res ℕ) (c : Codes Code) → (x >>= λ n. ok (record { list = l; end_size = n })) ≡ ok c
     → (l ≡ c.list) × ((h : Regs) → (x >> ok h) ≡ ok h)
-whole l (ok n) c e = let same : record { list = l; endSize = n } ≡ c = cc in (ap (λ d. d.list) same, λ h. refl)
+whole l (ok n) c e = let same : record { list = l; end_size = n } ≡ c = cc in (ap (λ d. d.list) same, λ h. refl)
 whole l (refuse r) c e = absurd (let z : ◌≡◌ {A = ℕ} 0 1 = cc in omega arith)
 
-module _ (s : List ℕ) (i : CodeBytes) (c : Codes Code) (e : codesAt s i ≡ ok c) where
+module _ (s : List ℕ) (i : CodeBytes) (c : Codes Code) (e : codes_at s i ≡ ok c) where
   codes-list : (scan s i).list ≡ c.list
   codes-list = (whole (scan s i).list (scan s i).ending c e).0
 

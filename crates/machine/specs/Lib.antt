@@ -1,3 +1,3 @@
 pub mod Registers
 pub mod Step
-pub mod as_coded
+pub mod AsCoded

@@ -5,11 +5,11 @@ ghost use Rattle.words.specs.Bits.{bit};
 ghost use Rattle.lent.specs.Lent.{lent, holds as holds_of};
 ghost use Rattle.words.specs.Answer.{if◌then◌else◌};
 ghost use Rattle.codes.specs.Code.{scan};
-ghost use Rattle.codes.specs.as_coded.Rows.{rowNumbers};
-ghost use Rattle.machine.specs.Step.{stands as standsOf, load as load_of, pop as pop_of, vpop as vpopOf, effect as effect_of, step as step_of};
-ghost use Rattle.machine.specs.as_coded.Answers.{loaded, loadedTwo, regs, came, outcome, Counted};
-ghost use Rattle.machine.specs.as_coded.Listed.{wordsListed};
-ghost use Rattle.machine.specs.as_coded.Run.{run_at};
+ghost use Rattle.codes.specs.AsCoded.Rows.{row_numbers};
+ghost use Rattle.machine.specs.Step.{stands as stands_of, load as load_of, pop as pop_of, vpop as vpop_of, effect as effect_of, step as step_of};
+ghost use Rattle.machine.specs.AsCoded.Answers.{loaded, loaded_two, regs, came, outcome, Counted};
+ghost use Rattle.machine.specs.AsCoded.Listed.{words_listed as spec_words_listed};
+ghost use Rattle.machine.specs.AsCoded.Run.{run_at};
 
 use codes::{Code, Taken, Undo};
 use words::{CodeBytes, Refusal, StackWords, Verdict};
@@ -103,7 +103,7 @@ fn set_d(d: &mut [u64], x: usize, low: u32, high: u32)
 
 // SP may stand here (RULES 9.8).
 pub fn stands(base: u32, stack: &[u8], sp: u64) -> bool
-    ensures { result ≡ standsOf (lent base stack.now) sp }
+    ensures { result ≡ stands_of (lent base stack.now) sp }
 {
     let low = base as u64;
     let len = stack.len() as u64;
@@ -131,7 +131,7 @@ pub fn load(base: u32, stack: &[u8], at: u64) -> Loaded
 
 // The two words at an address.
 fn load_two(base: u32, stack: &[u8], at: u64) -> LoadedTwo
-    ensures { result ≡ loadedTwo (load_of (lent base stack.now) at) (load_of (lent base stack.now) (at + 4)) }
+    ensures { result ≡ loaded_two (load_of (lent base stack.now) at) (load_of (lent base stack.now) (at + 4)) }
 {
     match load(base, stack, at) {
         Loaded::Word(low) => match load(base, stack, at + 4) {
@@ -163,7 +163,7 @@ fn has(list: u32, x: usize) -> bool
 
 // How many registers a list has: so many words a pop of it takes.
 fn words_listed(list: u32) -> u64
-    ensures { result ≡ wordsListed list 15 }
+    ensures { result ≡ spec_words_listed list 15 }
 {
     let mut n = 0;
     for x in 0..15 {
@@ -176,7 +176,7 @@ fn words_listed(list: u32) -> u64
 
 // Whether a list's words are lent from SP on. The registers are counted only near the end of the stack.
 fn room(list: u32, sp: u32, base: u32, stack: &[u8]) -> bool
-    ensures { result ≡ holds_of (lent base stack.now) sp (4 * wordsListed list 15) }
+    ensures { result ≡ holds_of (lent base stack.now) sp (4 * spec_words_listed list 15) }
 {
     let at = sp as u64;
     lent::holds(base, stack, at, 60) || lent::holds(base, stack, at, 4 * words_listed(list))
@@ -185,7 +185,7 @@ fn room(list: u32, sp: u32, base: u32, stack: &[u8]) -> bool
 // Loads the registers of a list from low to high, LR as 14 at last, each from the next word (RULES 3.11). There is no test for each: its
 // caller has asked `room`.
 fn pop_in(list: u32, r: &mut [u32; 13], sp: u32, lr: u32, base: u32, stack: &[u8]) -> Undone
-    requires { holds_of (lent base stack.now) sp (4 * wordsListed list 15) ≡ true }
+    requires { holds_of (lent base stack.now) sp (4 * spec_words_listed list 15) ≡ true }
     ensures { (pc : ℕ) (d : List ℕ) → came result.verdict (regs r.new result.sp result.lr pc d) ≡ pop_of (lent base stack.now) list 15 (regs r.old sp lr pc d) }
 {
     let mut o = (sp - base) as usize;
@@ -216,9 +216,9 @@ fn pop(list: u32, r: &mut [u32; 13], sp: u32, lr: u32, base: u32, stack: &[u8]) 
     }
 }
 
-// Pops dS to dE by rising number (RULES 3.12).
+// Pops d_s to d_e by rising number (RULES 3.12).
 fn vpop(s: u32, e: u32, d: &mut [u64; 32], sp: u32, lr: u32, base: u32, stack: &[u8]) -> Undone
-    ensures { (r : List ℕ) (pc : ℕ) → came result.verdict (regs r result.sp result.lr pc d.new) ≡ vpopOf (lent base stack.now) s (e + 1 - s) (regs r sp lr pc d.old) }
+    ensures { (r : List ℕ) (pc : ℕ) → came result.verdict (regs r result.sp result.lr pc d.new) ≡ vpop_of (lent base stack.now) s (e + 1 - s) (regs r sp lr pc d.old) }
 {
     let mut at = sp as u64;
     for x in (s as usize)..(e as usize) + 1 {
@@ -354,7 +354,7 @@ fn run_on(
     base: u32,
     stack: &[u8],
 ) -> u32
-    requires { (t.now ≡ rowNumbers) × (get_or e.old 0 0 ≤ at.0) }
+    requires { (t.now ≡ row_numbers) × (get_or e.old 0 0 ≤ at.0) }
     ensures { ((pc : ℕ) → came (outcome result (get_or e.new 1 0)) (regs r.new (get_or m.new 0 0) (get_or m.new 1 0) pc d.new) ≡ run_at (lent base stack.now) codes.now at (regs r.old (get_or m.old 0 0) (get_or m.old 1 0) pc d.old)) × Counted (outcome result (get_or e.new 1 0)) (get_or e.new 0 0) (get_or e.old 0 0 + length (scan codes.now at).list) }
 {
     match codes::take_at(t, codes, at) {
@@ -389,7 +389,7 @@ pub fn run_in(
     base: u32,
     stack: &[u8],
 ) -> Ended
-    requires { t.now ≡ rowNumbers }
+    requires { t.now ≡ row_numbers }
     ensures { ((pc : ℕ) → came result.verdict (regs r.new result.sp result.lr pc d.new) ≡ run_at (lent base stack.now) codes.now at (regs r.old sp lr pc d.old)) × Counted result.verdict result.codes (length (scan codes.now at).list) }
 {
     let mut m = [sp, lr];

@@ -6,8 +6,8 @@ use mathlib.Core.Bool.{true, false}
 use mathlib.Core.List.{List, [], ◌∷◌}
 use Rattle.lent.proofs.Bytes.{bytes_of}
 use Rattle.regions.specs.declared.Region.{Region}
-use Rattle.regions.specs.Region.{regionsFrom, within, cross, encloses, sound}
-use Rattle.nesting.specs.Outline.{none, region, inOrder, outline, depth}
+use Rattle.regions.specs.Region.{regions_from, within, cross, encloses, sound}
+use Rattle.nesting.specs.Outline.{none, region, in_order, outline, depth}
 use Rattle.nesting.proofs.Opened.{opened}
 
 -- the region of a number, from a begin up to an end
@@ -23,7 +23,7 @@ bytes =
     bytes_of
     (10 ∷ 20 ∷ 7 ∷ 9 ∷ 40 ∷ 60 ∷ 7 ∷ 9 ∷ 0 ∷ 30 ∷ 7 ∷ 9 ∷ 10 ∷ 20 ∷ 7 ∷ 9 ∷ 14 ∷ 16 ∷ 7 ∷ 9 ∷ 12 ∷ 14 ∷ 7 ∷ 9 ∷ [])
 
-table-read : regionsFrom bytes 0 0 6 ≡ table
+table-read : regions_from bytes 0 0 6 ≡ table
 unfolding opened
 table-read = refl
 
@@ -31,9 +31,9 @@ table-sound : sound table ≡ true
 unfolding opened
 table-sound = refl
 
-in_order : inOrder table ≡ at 2 0 30 ∷ at 0 10 20 ∷ at 3 10 20 ∷ at 5 12 14 ∷ at 4 14 16 ∷ at 1 40 60 ∷ []
+in_order_lem : in_order table ≡ at 2 0 30 ∷ at 0 10 20 ∷ at 3 10 20 ∷ at 5 12 14 ∷ at 4 14 16 ∷ at 1 40 60 ∷ []
 unfolding opened
-in_order = refl
+in_order_lem = refl
 
 --   0..30  (2)
 --     10..20  (0)

@@ -14,10 +14,10 @@ use borrow.Author.Tests.{leb-true, ltb-true, lt-ltb, le-leb, eq-eqb, eqb-true}
 use Rattle.words.specs.Answer.{if◌then◌else◌}
 use Rattle.words.proofs.Tests.{both}
 use Rattle.regions.specs.declared.Region.{Region}
-use Rattle.regions.specs.Region.{regionsFrom, within, covers, encloses, before, sound}
+use Rattle.regions.specs.Region.{regions_from, within, covers, encloses, before, sound}
 use Rattle.regions.proofs.Rows.{rows-length}
 use Rattle.nesting.specs.Outline as Made
-use Rattle.nesting.specs.Outline.{Outline, region, inOrder, front, behind, nest, outline, regionsOf, depth}
+use Rattle.nesting.specs.Outline.{Outline, region, in_order, front, behind, nest, outline, regions_of, depth}
 use Rattle.nesting.specs.Nested.{count, Among, Under, Parents, Leads, Sorted, Nested}
 use Rattle.nesting.proofs.Sorting.{Ascends, Stands, past, over, Laid, before-begins, table-ascends}
 use Rattle.nesting.proofs.Sorting.{order-has, order-keeps, order-count, order-length, order-laid}
@@ -111,27 +111,27 @@ unfoldable Every : (Region → Type 0) → Outline → Type 0
 Every P Made.none = Unit {0}
 Every P (region r i b) = P r × Every P i × Every P b
 
-every : (P : Region → Type 0) (o : Outline) → ((s : Region) → Among s (regionsOf o) → P s) → Every P o
-unfolding Every regionsOf Among
+every : (P : Region → Type 0) (o : Outline) → ((s : Region) → Among s (regions_of o) → P s) → Every P o
+unfolding Every regions_of Among
 every P Made.none f = tt
 every P (region r i b) f = (
   f r (inl refl),
-  every P i (λ s a. f s (inr (among-left s (regionsOf i) (regionsOf b) a))),
-  every P b (λ s a. f s (inr (among-right s (regionsOf i) (regionsOf b) a))),
+  every P i (λ s a. f s (inr (among-left s (regions_of i) (regions_of b) a))),
+  every P b (λ s a. f s (inr (among-right s (regions_of i) (regions_of b) a))),
 )
 
 -- those in front and those behind are all, and no deeper
 module _ (r : Region) where
-  regions-split : (o : Outline) → regionsOf (front r o) ++ regionsOf (behind r o) ≡ regionsOf o
-  unfolding front behind regionsOf
+  regions-split : (o : Outline) → regions_of (front r o) ++ regions_of (behind r o) ≡ regions_of o
+  unfolding front behind regions_of
   regions-split Made.none = refl
   regions-split (region s i b) = go (covers r s) (regions-split b)
     where
       go :
-          (c : Bool) → regionsOf (front r b) ++ regionsOf (behind r b) ≡ regionsOf b
-          → regionsOf (if c then region s i (front r b) else Made.none) ++ regionsOf (if c then behind r b else region s i b)
-          ≡ s ∷ (regionsOf i ++ regionsOf b)
-      go true e = ap (λ l. s ∷ l) (append_assoc (regionsOf i) (regionsOf (front r b)) (regionsOf (behind r b)) ∙ ap (λ l. regionsOf i ++ l) e)
+          (c : Bool) → regions_of (front r b) ++ regions_of (behind r b) ≡ regions_of b
+          → regions_of (if c then region s i (front r b) else Made.none) ++ regions_of (if c then behind r b else region s i b)
+          ≡ s ∷ (regions_of i ++ regions_of b)
+      go true e = ap (λ l. s ∷ l) (append_assoc (regions_of i) (regions_of (front r b)) (regions_of (behind r b)) ∙ ap (λ l. regions_of i ++ l) e)
       go false e = refl
 
   front-depth : (o : Outline) → depth (front r o) ≤ depth o
@@ -152,8 +152,8 @@ module _ (r : Region) where
       go true h = omega arith
       go false h = omega arith
 
-nest-regions : (l : List Region) → regionsOf (nest l) ≡ l
-unfolding nest regionsOf
+nest-regions : (l : List Region) → regions_of (nest l) ≡ l
+unfolding nest regions_of
 nest-regions [] = refl
 nest-regions (r ∷ l) = ap (λ k. r ∷ k) (regions-split r (nest l) ∙ nest-regions l)
 
@@ -299,7 +299,7 @@ module _ (k l : List Region) (to : (s : Region) → Among s k → Among s l) (fr
 
 pub nested-ascending : (rs : List Region) → Ascends rs → sound rs ≡ true → Nested rs (outline rs)
 nested-ascending rs up h =
-    let l = inOrder rs in
+    let l = in_order rs in
     let laid = order-laid rs up h in
     record {
       once = λ p. ap (count p) (nest-regions l) ∙ order-count p rs;
@@ -308,13 +308,13 @@ nested-ascending rs up h =
       shallow = omega (arith, nest-depth l, order-length rs);
     }
 
-pub nested : (s : List ℕ) (f n : ℕ) → sound (regionsFrom s f 0 n) ≡ true → Nested (regionsFrom s f 0 n) (outline (regionsFrom s f 0 n))
-nested s f n h = nested-ascending (regionsFrom s f 0 n) (table-ascends s f 0 n) h
+pub nested : (s : List ℕ) (f n : ℕ) → sound (regions_from s f 0 n) ≡ true → Nested (regions_from s f 0 n) (outline (regions_from s f 0 n))
+nested s f n h = nested-ascending (regions_from s f 0 n) (table-ascends s f 0 n) h
 
 -- a table has at most 64 regions, so an outline is at most 64 deep
-pub depth-64 : (s : List ℕ) (f n : ℕ) → n ≤ 64 → depth (outline (regionsFrom s f 0 n)) ≤ 64
+pub depth-64 : (s : List ℕ) (f n : ℕ) → n ≤ 64 → depth (outline (regions_from s f 0 n)) ≤ 64
 depth-64 s f n h =
-    let rs = regionsFrom s f 0 n in omega (arith, nest-depth (inOrder rs), order-length rs, rows-length s f n 0)
+    let rs = regions_from s f 0 n in omega (arith, nest-depth (in_order rs), order-length rs, rows-length s f n 0)
 
 -- ---- the mark: an RVA is in a region exactly from its begin up to its end
 pub marked : (a : ℕ) (r : Region) → r.begin ≤ a → a < r.end → within a r ≡ true

@@ -11,9 +11,9 @@ use native.Mathlib.Omega.{arith}
 use Rattle.lent.proofs.Bytes.{bytes_of}
 use Rattle.regions.specs.declared.Region.{Region}
 use Rattle.regions.specs.Region.{encloses, sound}
-use Rattle.nesting.specs.Outline.{none, region, regionsOf, depth, outline}
+use Rattle.nesting.specs.Outline.{none, region, regions_of, depth, outline}
 use Rattle.nesting.specs.Nested.{count, Nested, Sorted}
-use Rattle.nesting.specs.Shams.{outermost, firstHolds}
+use Rattle.nesting.specs.Shams.{outermost, first_holds}
 use Rattle.nesting.proofs.Opened.{opened}
 use Rattle.nesting.proofs.Examples.{at}
 use Rattle.nesting.proofs.Nesting.{nested}
@@ -55,11 +55,11 @@ no-outermost h =
     let z : ◌≡◌ {A = ℕ} 0 1 = cc in omega arith
 
 -- under the first holder: the middle one holds the inner one too, and does not hold the outer one
-first-drawn : firstHolds three ≡ region outer (region middle none (region inner none none)) none
+first-drawn : first_holds three ≡ region outer (region middle none (region inner none none)) none
 unfolding opened
 first-drawn = refl
 
-no-first : Nested three (firstHolds three) → ⊥
+no-first : Nested three (first_holds three) → ⊥
 unfolding opened
 no-first h = go (h.parents.1.2.0.2 middle (inr (inl refl)) refl)
   where
@@ -68,14 +68,14 @@ no-first h = go (h.parents.1.2.0.2 middle (inr (inl refl)) refl)
     go (inr e) = let f : false ≡ true = e in let z : ◌≡◌ {A = ℕ} 0 1 = cc in omega arith
 
 -- each region once, in order, and no deeper than there are regions
-first-once : (p : Region → Bool) → count p (regionsOf (firstHolds three)) ≡ count p three
+first-once : (p : Region → Bool) → count p (regions_of (first_holds three)) ≡ count p three
 unfolding opened
 first-once p = refl
 
-first-sorted : Sorted (firstHolds three)
+first-sorted : Sorted (first_holds three)
 unfolding opened
 first-sorted = (tt, (refl, tt, (tt, tt, tt)), tt)
 
-first-shallow : depth (firstHolds three) ≤ length three
+first-shallow : depth (first_holds three) ≤ length three
 unfolding opened
 first-shallow = omega arith

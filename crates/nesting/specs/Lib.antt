@@ -1,4 +1,4 @@
 pub mod Outline
 pub mod Nested
 pub mod Shams
-pub mod as_coded
+pub mod AsCoded

@@ -5,7 +5,7 @@ use Rattle.words.specs.Answer.{if◌then◌else◌}
 use Rattle.regions.specs.declared.Region.{Region}
 use Rattle.regions.specs.Region.{encloses, before}
 use Rattle.nesting.specs.Outline as Made
-use Rattle.nesting.specs.Outline.{Outline, region, regionsOf, depth}
+use Rattle.nesting.specs.Outline.{Outline, region, regions_of, depth}
 
 -- how many of a list pass a test
 unfoldable pub count : (Region → Bool) → List Region → ℕ
@@ -40,7 +40,7 @@ Sorted (region r i b) = Leads r b × Sorted i × Sorted b
 
 pub record Nested (rs : List Region) (o : Outline) : Type 0 where
   -- whatever is counted, there are as many in the outline as in the table: each region stands in it once
-  pub once : (p : Region → Bool) → count p (regionsOf o) ≡ count p rs
+  pub once : (p : Region → Bool) → count p (regions_of o) ≡ count p rs
   pub parents : Parents rs none o
   pub sorted : Sorted o
   pub shallow : depth o ≤ length rs

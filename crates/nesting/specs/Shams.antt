@@ -5,34 +5,34 @@ use Rattle.words.specs.Answer.{if◌then◌else◌, maybe}
 use Rattle.regions.specs.declared.Region.{Region}
 use Rattle.regions.specs.Region.{encloses}
 use Rattle.nesting.specs.Outline as Made
-use Rattle.nesting.specs.Outline.{Outline, region, inOrder}
+use Rattle.nesting.specs.Outline.{Outline, region, in_order}
 
 unfoldable pub flat : List Region → Outline
 flat [] = Made.none
 flat (r ∷ rs) = region r Made.none (flat rs)
 
 abbrev pub outermost : List Region → Outline
-outermost rs = flat (inOrder rs)
+outermost rs = flat (in_order rs)
 
 -- the first of a table that holds a region
-unfoldable pub firstHolder : List Region → Region → Option Region
-firstHolder [] r = none
-firstHolder (s ∷ ss) r = if encloses s r then some s else firstHolder ss r
+unfoldable pub first_holder : List Region → Region → Option Region
+first_holder [] r = none
+first_holder (s ∷ ss) r = if encloses s r then some s else first_holder ss r
 
 -- two holders are one: both none, or of the same number
 abbrev pub same : Option Region → Option Region → Bool
 same a b = eqb (maybe a 0 (λ r. suc r.number)) (maybe b 0 (λ r. suc r.number))
 
 -- those of a list whose first holder is this one
-unfoldable pub heldBy : (table : List Region) → Option Region → List Region → List Region
-heldBy rs u [] = []
-heldBy rs u (r ∷ l) = let rest = heldBy rs u l in if same (firstHolder rs r) u then r ∷ rest else rest
+unfoldable pub held_by : (table : List Region) → Option Region → List Region → List Region
+held_by rs u [] = []
+held_by rs u (r ∷ l) = let rest = held_by rs u l in if same (first_holder rs r) u then r ∷ rest else rest
 
 -- regions side by side, each with those that it is the first to hold, to a depth
 unfoldable pub hung : (depth : ℕ) → (table : List Region) → List Region → Outline
 hung zero rs l = Made.none
 hung (suc d) rs [] = Made.none
-hung (suc d) rs (r ∷ l) = region r (hung d rs (heldBy rs (some r) (inOrder rs))) (hung (suc d) rs l)
+hung (suc d) rs (r ∷ l) = region r (hung d rs (held_by rs (some r) (in_order rs))) (hung (suc d) rs l)
 
-abbrev pub firstHolds : List Region → Outline
-firstHolds rs = hung 64 rs (heldBy rs none (inOrder rs))
+abbrev pub first_holds : List Region → Outline
+first_holds rs = hung 64 rs (held_by rs none (in_order rs))

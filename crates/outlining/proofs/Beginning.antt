@@ -16,17 +16,17 @@ use Rattle.pdata.specs.Pdata as Pdata
 use Rattle.frame.specs.Frame.{checked}
 use Rattle.report.specs.declared.Parts.{Parts}
 use Rattle.report.specs.Report.{Report, report, end_at}
-use Rattle.report.specs.as_coded.Parts as Report
-use Rattle.report.specs.as_coded.Parts.{parts_of, noParts, inputsIn, Lie}
+use Rattle.report.specs.AsCoded.Parts as Report
+use Rattle.report.specs.AsCoded.Parts.{parts_of, no_parts, inputs_in, Lie}
 use Rattle.report.proofs.Reading.{not-whole, given_is, read-given, read-refused}
 use Rattle.text.specs.Text.{text}
-use Rattle.listing.specs.Listing.{refusedText}
+use Rattle.listing.specs.Listing.{refused_text}
 use Rattle.outlining.specs.declared.Begun.{Begun}
-use Rattle.outlining.specs.as_coded.Parts.{parts_at, parts, standingAt, inputsAt, Ready, begunAt}
+use Rattle.outlining.specs.AsCoded.Parts.{parts_at, parts, standing_at, inputs_at, Ready, begun_at}
 
 -- reading a report and checking its tables, once
-pub begun-is : (s : List ℕ) (p : Parts) (k m : Checked) → p ≡ Report.parts s → k ≡ checked (inputsIn s p) → m ≡ Pdata.checked (inputsIn s p).pdata
-    → ◌≡◌ {A = Begun} (record { verdict = p.verdict; at = record { parts = p; checked = k; starts = m; regs = p.regs; end = false; frames = 0; codes = 0 } }) (begunAt s)
+pub begun-is : (s : List ℕ) (p : Parts) (k m : Checked) → p ≡ Report.parts s → k ≡ checked (inputs_in s p) → m ≡ Pdata.checked (inputs_in s p).pdata
+    → ◌≡◌ {A = Begun} (record { verdict = p.verdict; at = record { parts = p; checked = k; starts = m; regs = p.regs; end = false; frames = 0; codes = 0 } }) (begun_at s)
 begun-is s p k m e c d = rw (c, d, e)
 
 -- each part of what was read lies in the file
@@ -41,22 +41,22 @@ lies : (s : List ℕ) → Lie s (Report.parts s)
 unfolding Report.parts
 lies s = go (report s) refl
   where
-    go : (y : Res Report) → report s ≡ y → Lie s (either y noParts (λ p. parts_of s))
+    go : (y : Res Report) → report s ≡ y → Lie s (either y no_parts (λ p. parts_of s))
     go (ok r) e = (given_is s {p = parts_of s} e (whole s e) refl).1
     go (refuse r) e = record { first = omega arith; second = omega arith; third = omega arith; whole = omega arith }
 
 -- where an outline begins, it is ready
-pub begun-ready : (s : List ℕ) → Ready s (begunAt s).at
+pub begun-ready : (s : List ℕ) → Ready s (begun_at s).at
 begun-ready s = record {
   lie = lies s;
   stands = record { checks = refl; table = refl; small = record { rose = omega arith; few = omega arith }; room = omega arith };
 }
 
 -- and its parts are left, unless the report is refused: then the refusal is the only one
-pub begun-given : (s : List ℕ) → (begunAt s).verdict ≡ Given → parts s ≡ parts_at (inputsAt s (begunAt s).at) (standingAt (begunAt s).at)
+pub begun-given : (s : List ℕ) → (begun_at s).verdict ≡ Given → parts s ≡ parts_at (inputs_at s (begun_at s).at) (standing_at (begun_at s).at)
 unfolding parts
 begun-given s v = rw (read-given s (Report.parts s) refl v)
 
-pub begun-refused : (s : List ℕ) (r : Refusal) → (begunAt s).verdict ≡ Refused r → parts s ≡ (refusedText r ++ text "\n") ∷ []
+pub begun-refused : (s : List ℕ) (r : Refusal) → (begun_at s).verdict ≡ Refused r → parts s ≡ (refused_text r ++ text "\n") ∷ []
 unfolding parts
 begun-refused s r v = rw (read-refused s (Report.parts s) r refl v)

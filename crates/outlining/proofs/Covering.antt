@@ -25,12 +25,12 @@ use Rattle.machine.specs.declared.Regs.{Regs}
 use Rattle.machine.specs.Step.{stands}
 use Rattle.pdata.specs.declared.Entry.{Entry}
 use Rattle.pdata.specs.Pdata.{find}
-use Rattle.xdata.specs.Xdata.{fitXdata}
+use Rattle.xdata.specs.Xdata.{fit_xdata}
 use Rattle.record.specs.Record.{shape_of}
-use Rattle.frame.specs.Frame.{Inputs, Caller, fitStack, leafOf, uncovered, within, byRecord, frame_of}
+use Rattle.frame.specs.Frame.{Inputs, Caller, fit_stack, leaf_of, uncovered, within, by_record, frame_of}
 use Rattle.walking.specs.Walk.{arm, frames, walk}
-use Rattle.outlining.specs.Outlined.{regionsBy, regionsFound, regionsAt}
-use Rattle.outlining.specs.Covered.{offsetIn, Covers, Regioned, covered, bare}
+use Rattle.outlining.specs.Outlined.{regions_by, regions_found, regions_at}
+use Rattle.outlining.specs.Covered.{offset_in, Covers, Regioned, covered, bare}
 use Rattle.frame.proofs.Inner.{inner-within}
 
 -- ---- a pc and the same without its bit 0
@@ -54,40 +54,40 @@ pub data Rests (t : Inputs) (g : Regs) (c : Caller) : Type 0 where
   nothing : ((e : Entry) → Covers t g.pc e → ⊥) → c.place ≡ Leaf → Rests t g c
 
 uncovered-leaf : (first : Bool) (g : Regs) (c : Caller) → uncovered first g ≡ ok c → c.place ≡ Leaf
-uncovered-leaf true g c q = ap (λ z. z.place) (sym (ok_same (leafOf g) c q))
+uncovered-leaf true g c q = ap (λ z. z.place) (sym (ok_same (leaf_of g) c q))
 uncovered-leaf false g c q = absurd (let z : ◌≡◌ {A = ℕ} 0 1 = cc in omega arith)
 
 -- a record found, of a function that ends before the pc
 module _ (t : Inputs) (pc : ℕ) (e : Entry) (s : Shape) (f : find t.image t.pdata pc ≡ ok (some e)) (r : shape_of t.xdata e ≡ ok s) where
-  beyond : ltb (offsetIn t pc e) s.span ≡ false → (d : Entry) → Covers t pc d → ⊥
+  beyond : ltb (offset_in t pc e) s.span ≡ false → (d : Entry) → Covers t pc d → ⊥
   beyond l d k =
       let same : d ≡ e = cc (f, k.found) in
       let shapes : k.shape ≡ s = ok_same k.shape s (sym k.read ∙ ap (shape_of t.xdata) same ∙ r) in
-      omega (arith, k.inside, ap (λ z. z.start) same, ap (λ z. z.span) shapes, ltb-false (offsetIn t pc e) s.span l)
+      omega (arith, k.inside, ap (λ z. z.start) same, ap (λ z. z.span) shapes, ltb-false (offset_in t pc e) s.span l)
 
 module _ (first : Bool) (t : Inputs) (g : Regs) (c : Caller) where
-  by-record : (e : Entry) → find t.image t.pdata g.pc ≡ ok (some e) → byRecord first t e g ≡ ok c → Rests t g c
-  unfolding byRecord
-  by-record e f q = let a = bind_ok (shape_of t.xdata e) _ c q in go a.0 a.1 (ltb (offsetIn t g.pc e) a.0.span) refl a.2
+  by-record : (e : Entry) → find t.image t.pdata g.pc ≡ ok (some e) → by_record first t e g ≡ ok c → Rests t g c
+  unfolding by_record
+  by-record e f q = let a = bind_ok (shape_of t.xdata e) _ c q in go a.0 a.1 (ltb (offset_in t g.pc e) a.0.span) refl a.2
     where
       go :
-          (s : Shape) → shape_of t.xdata e ≡ ok s → (b : Bool) → ltb (offsetIn t g.pc e) s.span ≡ b
-          → (if b then within t.stack s (offsetIn t g.pc e) g else uncovered first g) ≡ ok c
+          (s : Shape) → shape_of t.xdata e ≡ ok s → (b : Bool) → ltb (offset_in t g.pc e) s.span ≡ b
+          → (if b then within t.stack s (offset_in t g.pc e) g else uncovered first g) ≡ ok c
           → Rests t g c
       go s r true l w =
-          on e (record { found = f; shape = s; read = r; inside = ltb-true _ _ l }) (inner-within t.stack s (offsetIn t g.pc e) g c w)
+          on e (record { found = f; shape = s; read = r; inside = ltb-true _ _ l }) (inner-within t.stack s (offset_in t g.pc e) g c w)
       go s r false l w = nothing (beyond t g.pc e s f r l) (uncovered-leaf first g c w)
 
   pub rests : frame_of first t g ≡ ok c → Rests t g c
   unfolding frame_of
   rests h =
-      let a = need-ok (fitStack t.stack && fitXdata t.xdata) UnfitInput _ c h in
+      let a = need-ok (fit_stack t.stack && fit_xdata t.xdata) UnfitInput _ c h in
       let b = bind_ok (find t.image t.pdata g.pc) _ c a.1 in
       let d = need-ok (stands t.stack g.sp) BadStack _ c b.2 in
       go b.0 b.1 d.1
     where
       go :
-          (e : Option Entry) → find t.image t.pdata g.pc ≡ ok e → maybe e (uncovered first g) (λ e. byRecord first t e g) ≡ ok c
+          (e : Option Entry) → find t.image t.pdata g.pc ≡ ok e → maybe e (uncovered first g) (λ e. by_record first t e g) ≡ ok c
           → Rests t g c
       go none f q = nothing (λ e k. let z : ◌≡◌ {A = ℕ} 0 1 = cc (f, k.found) in omega arith) (uncovered-leaf first g c q)
       go (some e) f q = by-record e f q
@@ -95,18 +95,18 @@ module _ (first : Bool) (t : Inputs) (g : Regs) (c : Caller) where
 -- ---- a frame's regions
 found-regions :
     (t : Inputs) (pc : ℕ) (e : Entry) (p : Place) → p ≢ Leaf → find t.image t.pdata pc ≡ ok (some e)
-    → regionsAt t pc p ≡ regionsBy t e
+    → regions_at t pc p ≡ regions_by t e
 found-regions t pc e Leaf n f = absurd (n refl)
-found-regions t pc e Prologue n f = ap (regionsFound t) f
-found-regions t pc e Body n f = ap (regionsFound t) f
-found-regions t pc e Epilogue n f = ap (regionsFound t) f
+found-regions t pc e Prologue n f = ap (regions_found t) f
+found-regions t pc e Body n f = ap (regions_found t) f
+found-regions t pc e Epilogue n f = ap (regions_found t) f
 
-pub frame-regioned : (first : Bool) (t : Inputs) (g : Regs) (c : Caller) → frame_of first t g ≡ ok c → Regioned t (arm.listedAs g c.place)
+pub frame-regioned : (first : Bool) (t : Inputs) (g : Regs) (c : Caller) → frame_of first t g ≡ ok c → Regioned t (arm.listed_as g c.place)
 frame-regioned first t g c h = go (rests first t g c h)
   where
-    go : Rests t g c → Regioned t (arm.listedAs g c.place)
+    go : Rests t g c → Regioned t (arm.listed_as g c.place)
     go (on e k n) = let q = to-even k in covered e q n (found-regions t (even g.pc) e c.place n q.found)
-    go (nothing k n) = bare (λ e q. k e (from-even q)) n (ap (regionsAt t (even g.pc)) n)
+    go (nothing k n) = bare (λ e q. k e (from-even q)) n (ap (regions_at t (even g.pc)) n)
 
 -- ---- all frames of a walk
 each : {room : ℕ} {first : Bool} {g : Regs} {w : Trail arm} (t : Inputs) → Walks arm (frames t) room first g w → All (Regioned t) w.frames

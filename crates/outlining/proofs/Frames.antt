@@ -15,12 +15,12 @@ use Rattle.pdata.specs.Pdata.{find}
 use Rattle.frame.specs.Frame.{Inputs, inputs}
 use Rattle.walking.specs.declared.Going.{Going}
 use Rattle.walking.specs.declared.Standing.{Standing}
-use Rattle.listing.specs.as_coded.Turns.{turnText}
-use Rattle.region_text.specs.RegionText.{regionsText}
-use Rattle.outlining.specs.Outlined.{regionsFound, regionsAt}
-use Rattle.outlining.specs.as_coded.Parts.{opening, turnPart}
+use Rattle.listing.specs.AsCoded.Turns.{turn_text}
+use Rattle.region_text.specs.RegionText.{regions_text}
+use Rattle.outlining.specs.Outlined.{regions_found, regions_at}
+use Rattle.outlining.specs.AsCoded.Parts.{opening, turn_part}
 
-pub covered : (t : Inputs) (pc : ℕ) (p : Place) → OneOf (1 ∷ 2 ∷ 3 ∷ []) (tag_of the_type p) → regionsAt t pc p ≡ regionsFound t (find t.image t.pdata pc)
+pub covered : (t : Inputs) (pc : ℕ) (p : Place) → OneOf (1 ∷ 2 ∷ 3 ∷ []) (tag_of the_type p) → regions_at t pc p ≡ regions_found t (find t.image t.pdata pc)
 covered t pc Leaf h = absurd (⊎_elim (λ e. omega arith) (λ k. ⊎_elim (λ e. omega arith) (λ e. omega arith) k) h)
 covered t pc Prologue h = refl
 covered t pc Body h = refl
@@ -33,12 +33,12 @@ module _ (image : ℕ) (pdata : List ℕ) (rva : ℕ) (xdata : List ℕ) (base :
   abbrev whole : Inputs
   whole = inputs image pdata rva xdata base stack
 
-  same-regions : (pc : ℕ) (p : Place) → regionsAt bare pc p ≡ regionsAt whole pc p
+  same-regions : (pc : ℕ) (p : Place) → regions_at bare pc p ≡ regions_at whole pc p
   same-regions pc Leaf = refl
   same-regions pc Prologue = refl
   same-regions pc Body = refl
   same-regions pc Epilogue = refl
 
-  pub same-part : (s : Standing) (x : Going) → turnPart bare s x ≡ turnPart whole s x
+  pub same-part : (s : Standing) (x : Going) → turn_part bare s x ≡ turn_part whole s x
   same-part s x =
-      ap (λ l. opening s.frames ++ turnText s x ++ (if x.on then regionsText (x.frame.pc - image) l else [])) (same-regions x.frame.pc x.frame.place)
+      ap (λ l. opening s.frames ++ turn_text s x ++ (if x.on then regions_text (x.frame.pc - image) l else [])) (same-regions x.frame.pc x.frame.place)

@@ -10,22 +10,22 @@ use Rattle.words.specs.declared.Refusal.{Refusal}
 use Rattle.words.specs.declared.Verdict.TheVariants.{Given, Refused}
 use Rattle.words.specs.Answer.{if◌then◌else◌}
 use Rattle.report.specs.declared.Parts.{Parts}
-use Rattle.report.specs.as_coded.Parts.{inputsIn, Lie}
+use Rattle.report.specs.AsCoded.Parts.{inputs_in, Lie}
 use Rattle.text.specs.Text.{text}
 use Rattle.text.specs.Overlay.{Laid}
 use Rattle.text.proofs.Overlaid.{none, joined, laid_as}
-use Rattle.listing.specs.Listing.{refusedText}
+use Rattle.listing.specs.Listing.{refused_text}
 use Rattle.outlining.specs.declared.At.{At}
 use Rattle.outlining.specs.declared.Part.{Part}
 use Rattle.outlining.specs.declared.Begun.{Begun}
 use Rattle.outlining.specs.Outlined.{outlined}
-use Rattle.outlining.specs.as_coded.Parts.{parts_at, standingAt, inputsAt, Stands, Ready, Writes, begunAt}
+use Rattle.outlining.specs.AsCoded.Parts.{parts_at, standing_at, inputs_at, Stands, Ready, Writes, begun_at}
 use Rattle.outlining.proofs.Beginning.{begun-given, begun-refused}
 use Rattle.outlining.proofs.Parting.{parts-outlined}
 
 -- the text of the parts that are left, if there are any
 abbrev left : List ℕ → Bool → At → List ℕ
-left file on s = flatten (if on then parts_at (inputsAt file s) (standingAt s) else [])
+left file on s = flatten (if on then parts_at (inputs_at file s) (standing_at s) else [])
 
 -- the text laid so far, and that of the parts that are left, are the text of all
 pub record Laying (file : List ℕ) (a : At) (b : List ℕ) (s : At) (next : ℕ) (on : Bool) (o : List ℕ) : Type 0 where
@@ -38,8 +38,8 @@ pub laying-begins : (file : List ℕ) (a : At) (b : List ℕ) → Ready file a �
 laying-begins file a b h l = record { done = []; laid = none b 0 (omega arith) l; rest = refl; ready = λ o. h }
 
 -- where the next part begins, it may rest on the same
-pub next-ready : (file : List ℕ) (s n : At) → n.parts ≡ s.parts → Lie file s.parts → Stands (inputsAt file s) n → Ready file n
-next-ready file s n e l h = record { lie = subst (Lie file) (sym e) l; stands = subst (λ (p : Parts). Stands (inputsIn file p) n) (sym e) h }
+pub next-ready : (file : List ℕ) (s n : At) → n.parts ≡ s.parts → Lie file s.parts → Stands (inputs_at file s) n → Ready file n
+next-ready file s n e l h = record { lie = subst (Lie file) (sym e) l; stands = subst (λ (p : Parts). Stands (inputs_in file p) n) (sym e) h }
 
 -- fewer frames are left behind a part
 pub part-less : (file : List ℕ) (s : At) (o : List ℕ) (next : ℕ) (r : Part) (u : List ℕ) → Ready file s → Writes file s o next r u → (if r.on then 257 - r.next.frames else 0) < 257 - s.frames
@@ -50,8 +50,8 @@ part-less file s o next r u h w = go r.on refl
     go false q = rw q (omega (arith, h.stands.room))
 
 module _ (file : List ℕ) (a : At) (b : List ℕ) (s : At) (next : ℕ) (o : List ℕ) (h : Laying file a b s next true o) (r : Part) (u : List ℕ) (w : Writes file s o next r u) where
-  same_left : flatten (if r.on then parts_at (inputsAt file s) (standingAt r.next) else []) ≡ left file r.on r.next
-  same_left = ap (λ (p : Parts). flatten (if r.on then parts_at (inputsIn file p) (standingAt r.next) else [])) (sym w.same)
+  same_left : flatten (if r.on then parts_at (inputs_at file s) (standing_at r.next) else []) ≡ left file r.on r.next
+  same_left = ap (λ (p : Parts). flatten (if r.on then parts_at (inputs_in file p) (standing_at r.next) else [])) (sym w.same)
 
   first-left : left file true s ≡ w.part ++ left file r.on r.next
   unfolding flatten
@@ -70,14 +70,14 @@ unfolding flatten
 laying-done file a b s next o h = laid_as (sym (append-nil h.done) ∙ h.rest) h.laid
 
 -- what was read of a report: the text of all parts is the outline; where it is refused, the refusal is
-module _ (file : List ℕ) (b : Begun) (e : b ≡ begunAt file) where
+module _ (file : List ℕ) (b : Begun) (e : b ≡ begun_at file) where
   pub outline-given : b.verdict ≡ Given → left file true b.at ≡ outlined file
   outline-given v =
       ap (λ (x : Begun). left file true x.at) e ∙ ap flatten (sym (begun-given file (ap (λ (x : Begun). x.verdict) (sym e) ∙ v))) ∙ parts-outlined file
 
-  pub outline-refused : (r : Refusal) → b.verdict ≡ Refused r → refusedText r ++ text "\n" ≡ outlined file
+  pub outline-refused : (r : Refusal) → b.verdict ≡ Refused r → refused_text r ++ text "\n" ≡ outlined file
   unfolding flatten
   outline-refused r v =
-      sym (append-nil (refusedText r ++ text "\n"))
+      sym (append-nil (refused_text r ++ text "\n"))
       ∙ ap flatten (sym (begun-refused file r (ap (λ (x : Begun). x.verdict) (sym e) ∙ v)))
       ∙ parts-outlined file

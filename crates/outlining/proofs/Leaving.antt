@@ -9,12 +9,12 @@ use lib.Dec.{ltb, eqb}
 use borrow.Author.Tests.{ne_eqb}
 use native.Mathlib.Omega.{arith}
 use Rattle.words.specs.Answer.{if◌then◌else◌}
-use Rattle.text.specs.Text.{digit, digits, decimalLength, decimal, hex8}
-use Rattle.outlining.specs.Stripped.{Where, start, kept, dropped, afterKept, afterDropped, strippedFrom, stripped}
+use Rattle.text.specs.Text.{digit, digits, decimal_length, decimal, hex8}
+use Rattle.outlining.specs.Stripped.{Where, start, kept, dropped, after_kept, after_dropped, stripped_from, stripped}
 
 -- a text leads from one place to another, and this is left of it, whatever follows
 pub record Leaves (w : Where) (t : List ℕ) (v : Where) (l : List ℕ) : Type 0 where
-  pub so : (rest : List ℕ) → strippedFrom w (t ++ rest) ≡ l ++ strippedFrom v rest
+  pub so : (rest : List ℕ) → stripped_from w (t ++ rest) ≡ l ++ stripped_from v rest
 
 -- whole lines that stay, and whole lines that go
 abbrev pub Kept : List ℕ → Type 0
@@ -24,13 +24,13 @@ abbrev pub Gone : List ℕ → Type 0
 Gone t = Leaves start t start []
 
 pub whole : {t l : List ℕ} → Leaves start t start l → stripped t ≡ l
-unfolding strippedFrom
-whole {t} {l} h = ap (strippedFrom start) (sym (append-nil t)) ∙ h.so [] ∙ append-nil l
+unfolding stripped_from
+whole {t} {l} h = ap (stripped_from start) (sym (append-nil t)) ∙ h.so [] ∙ append-nil l
 
 -- one text after another
 pub both : {w v x : Where} {s t l m : List ℕ} → Leaves w s v l → Leaves v t x m → Leaves w (s ++ t) x (l ++ m)
 both {w} {v} {x} {s} {t} {l} {m} h k = record {
-  so = λ rest. ap (strippedFrom w) (append_assoc s t rest) ∙ h.so (t ++ rest) ∙ ap (λ z. l ++ z) (k.so rest) ∙ sym (append_assoc l m (strippedFrom x rest));
+  so = λ rest. ap (stripped_from w) (append_assoc s t rest) ∙ h.so (t ++ rest) ∙ ap (λ z. l ++ z) (k.so rest) ∙ sym (append_assoc l m (stripped_from x rest));
 }
 
 -- and one of which nothing is left
@@ -49,24 +49,24 @@ no-space c h = let no : c ≡ 32 → ⊥ = λ e. omega arith in ne_eqb c 32 no
 no-newline : (c : ℕ) → 32 < c → eqb c 0x0A ≡ false
 no-newline c h = let no : c ≡ 10 → ⊥ = λ e. omega arith in ne_eqb c 10 no
 
-stays-kept : (c : ℕ) → 32 < c → afterKept c ≡ kept
+stays-kept : (c : ℕ) → 32 < c → after_kept c ≡ kept
 stays-kept c h = rw (no-newline c h) refl
 
-stays-dropped : (c : ℕ) → 32 < c → afterDropped c ≡ dropped
+stays-dropped : (c : ℕ) → 32 < c → after_dropped c ≡ dropped
 stays-dropped c h = rw (no-newline c h) refl
 
 glyphs-kept : (t : List ℕ) → Glyphs t → Leaves kept t kept t
-unfolding strippedFrom
+unfolding stripped_from
 glyphs-kept [] h = record { so = λ rest. refl }
-glyphs-kept (c ∷ t) h = record { so = λ rest. ap (λ w. c ∷ strippedFrom w (t ++ rest)) (stays-kept c h.0) ∙ ap (λ z. c ∷ z) ((glyphs-kept t h.1).so rest) }
+glyphs-kept (c ∷ t) h = record { so = λ rest. ap (λ w. c ∷ stripped_from w (t ++ rest)) (stays-kept c h.0) ∙ ap (λ z. c ∷ z) ((glyphs-kept t h.1).so rest) }
 
 glyphs-dropped : (t : List ℕ) → Glyphs t → Leaves dropped t dropped []
-unfolding strippedFrom
+unfolding stripped_from
 glyphs-dropped [] h = record { so = λ rest. refl }
-glyphs-dropped (c ∷ t) h = record { so = λ rest. ap (λ w. strippedFrom w (t ++ rest)) (stays-dropped c h.0) ∙ (glyphs-dropped t h.1).so rest }
+glyphs-dropped (c ∷ t) h = record { so = λ rest. ap (λ w. stripped_from w (t ++ rest)) (stays-dropped c h.0) ∙ (glyphs-dropped t h.1).so rest }
 
 glyphs-start : (c : ℕ) (t : List ℕ) → Glyphs (c ∷ t) → Leaves start (c ∷ t) kept (c ∷ t)
-unfolding strippedFrom
+unfolding stripped_from
 glyphs-start c t h = record { so = λ rest. rw (no-space c h.0) ((glyphs-kept (c ∷ t) h).so rest) }
 
 -- ---- numbers
@@ -88,14 +88,14 @@ digits-start b zero v c rest h = glyphs-start c rest h
 digits-start b (suc n) v c rest h = digits-start b n (v / b) (digit (v % b)) (c ∷ rest) (digit_glyph (v % b), h)
 
 -- a decimal number has a digit
-some-digit : (n v : ℕ) → (k : ℕ) × (decimalLength n v ≡ suc k)
-unfolding decimalLength
+some-digit : (n v : ℕ) → (k : ℕ) × (decimal_length n v ≡ suc k)
+unfolding decimal_length
 some-digit zero v = (0, refl)
 some-digit (suc n) v = go (ltb v 10)
   where
-    go : (b : Bool) → (k : ℕ) × ((if b then 1 else suc (decimalLength n (v / 10))) ≡ suc k)
+    go : (b : Bool) → (k : ℕ) × ((if b then 1 else suc (decimal_length n (v / 10))) ≡ suc k)
     go true = (0, refl)
-    go false = (decimalLength n (v / 10), refl)
+    go false = (decimal_length n (v / 10), refl)
 
 -- a number at a line's start, and numbers in a line
 pub decimal-start : (v : ℕ) → Leaves start (decimal v) kept (decimal v)
@@ -105,13 +105,13 @@ decimal-start v =
     subst (λ n. Leaves start (digits 10 n v []) kept (digits 10 n v [])) (sym d.1) (digits-start 10 d.0 (v / 10) (digit (v % 10)) [] (digit_glyph (v % 10), tt))
 
 pub decimal-kept : (v : ℕ) → Leaves kept (decimal v) kept (decimal v)
-decimal-kept v = glyphs-kept (decimal v) (digits-glyphs 10 (decimalLength 20 v) v [] tt)
+decimal-kept v = glyphs-kept (decimal v) (digits-glyphs 10 (decimal_length 20 v) v [] tt)
 
 pub hex-kept : (v : ℕ) → Leaves kept (hex8 v) kept (hex8 v)
 hex-kept v = glyphs-kept (hex8 v) (digits-glyphs 16 8 v [] tt)
 
 pub decimal-dropped : (v : ℕ) → Leaves dropped (decimal v) dropped []
-decimal-dropped v = glyphs-dropped (decimal v) (digits-glyphs 10 (decimalLength 20 v) v [] tt)
+decimal-dropped v = glyphs-dropped (decimal v) (digits-glyphs 10 (decimal_length 20 v) v [] tt)
 
 pub hex-dropped : (v : ℕ) → Leaves dropped (hex8 v) dropped []
 hex-dropped v = glyphs-dropped (hex8 v) (digits-glyphs 16 8 v [] tt)

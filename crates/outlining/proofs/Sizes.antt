@@ -18,32 +18,32 @@ use Rattle.walking.specs.declared.Going.{Going}
 use Rattle.walking.specs.declared.Standing.{Standing}
 use Rattle.walking.specs.declared.Stop.{Stop}
 use Rattle.text.proofs.Numbers.{decimal-limit}
-use Rattle.listing.specs.Listing.{frameLine, last_of}
+use Rattle.listing.specs.Listing.{frame_line, last_of}
 use Rattle.listing.proofs.Sizes.{stop-length, frame-length}
-use Rattle.regions.specs.Table.{listed, regionsOf}
-use Rattle.region_text.specs.RegionText.{regionsText}
+use Rattle.regions.specs.Table.{listed, regions_of}
+use Rattle.region_text.specs.RegionText.{regions_text}
 use Rattle.region_text.proofs.Nothing.{no-regions}
 use Rattle.region_text.proofs.Sizes.{regions-fit}
-use Rattle.outlining.specs.Outlined.{heading, regionsBy, regionsFound, regionsAt, regionLines}
-use Rattle.outlining.specs.as_coded.Parts.{opening, turnPart}
+use Rattle.outlining.specs.Outlined.{heading, regions_by, regions_found, regions_at, region_lines}
+use Rattle.outlining.specs.AsCoded.Parts.{opening, turn_part}
 
 -- the regions of a record, of what was found, of a frame
-none-fit : (a : ℕ) → length (regionsText a (listed [])) ≤ 10700
+none-fit : (a : ℕ) → length (regions_text a (listed [])) ≤ 10700
 none-fit a = rw (no-regions a) (omega arith)
 
-by-fit : (a : ℕ) (t : Inputs) (e : Entry) → length (regionsText a (regionsBy t e)) ≤ 10700
+by-fit : (a : ℕ) (t : Inputs) (e : Entry) → length (regions_text a (regions_by t e)) ≤ 10700
 by-fit a t e = go (eqb (bits 0 2 e.word) 0)
   where
-    go : (b : Bool) → length (regionsText a (if b then regionsOf t.xdata e.word else listed [])) ≤ 10700
+    go : (b : Bool) → length (regions_text a (if b then regions_of t.xdata e.word else listed [])) ≤ 10700
     go true = regions-fit a t.xdata e.word
     go false = none-fit a
 
-found-fit : (a : ℕ) (t : Inputs) (found : Res (Option Entry)) → length (regionsText a (regionsFound t found)) ≤ 10700
+found-fit : (a : ℕ) (t : Inputs) (found : Res (Option Entry)) → length (regions_text a (regions_found t found)) ≤ 10700
 found-fit a t (refuse r) = none-fit a
 found-fit a t (ok none) = none-fit a
 found-fit a t (ok (some e)) = by-fit a t e
 
-pub at-fit : (a : ℕ) (t : Inputs) (pc : ℕ) (p : Place) → length (regionsText a (regionsAt t pc p)) ≤ 10700
+pub at-fit : (a : ℕ) (t : Inputs) (pc : ℕ) (p : Place) → length (regions_text a (regions_at t pc p)) ≤ 10700
 at-fit a t pc Leaf = none-fit a
 at-fit a t pc Prologue = found-fit a t (find t.image t.pdata pc)
 at-fit a t pc Body = found-fit a t (find t.image t.pdata pc)
@@ -60,18 +60,18 @@ opening-length n = go (eqb n 0)
 pub last-length : (s : Stop) (n k : ℕ) → length (last_of s n k) ≤ 99
 last-length s n k = simp length-append (omega (arith, stop-length s, decimal-limit n, decimal-limit k))
 
-pub part_length : (t : Inputs) (s : Standing) (x : Going) → s.frames < 1000 → length (turnPart t s x) ≤ 12288
+pub part_length : (t : Inputs) (s : Standing) (x : Going) → s.frames < 1000 → length (turn_part t s x) ≤ 12288
 part_length t s x h = go x.on
   where
     n : ℕ
     n = s.frames
 
     line : Bool → List ℕ
-    line b = if b then frameLine n x.frame else last_of x.stop n s.codes
+    line b = if b then frame_line n x.frame else last_of x.stop n s.codes
 
     of : (m l : List ℕ) → length m ≤ 99 → length l ≤ 10700 → length (opening n ++ m ++ l) ≤ 12288
     of m l b c = omega (arith, length-append (opening n ++ m) l, length-append (opening n) m, opening-length n)
 
-    go : (b : Bool) → length (opening n ++ line b ++ (if b then regionLines t x.frame else [])) ≤ 12288
-    go true = of (line true) (regionLines t x.frame) (omega (arith, frame-length n x.frame h)) (at-fit _ t x.frame.pc x.frame.place)
+    go : (b : Bool) → length (opening n ++ line b ++ (if b then region_lines t x.frame else [])) ≤ 12288
+    go true = of (line true) (region_lines t x.frame) (omega (arith, frame-length n x.frame h)) (at-fit _ t x.frame.pc x.frame.place)
     go false = of (line false) [] (last-length x.stop n s.codes) (omega arith)

@@ -6,7 +6,7 @@ use mathlib.Core.Bool.{Bool, true, false}
 use mathlib.Core.List.{List, [], ◌∷◌, ◌++◌, append_assoc, append-nil}
 use native.Mathlib.Omega.{arith}
 use Rattle.words.specs.Answer.{if◌then◌else◌}
-use Rattle.unwinding.specs.as_coded.Turn as Any
+use Rattle.unwinding.specs.AsCoded.Turn as Any
 use Rattle.unwinding.specs.Trail as AnyTrail
 use Rattle.unwinding.proofs.Turns.{Turns, turns}
 use Rattle.unwinding.proofs.Looping as Loop
@@ -17,20 +17,20 @@ use Rattle.walking.specs.declared.Frame.{Frame}
 use Rattle.walking.specs.declared.Going.{Going}
 use Rattle.walking.specs.declared.Standing.{Standing}
 use Rattle.walking.specs.Walk.{arm, frames, Trail}
-use Rattle.walking.specs.as_coded.InPlace.{stands, SmallIn, Goes}
+use Rattle.walking.specs.AsCoded.InPlace.{stands, SmallIn, Goes}
 use Rattle.walking.proofs.Turns.{bounded}
 use Rattle.text.specs.Overlay.{Laid}
-use Rattle.listing.specs.Listing.{frameLine, last_of}
+use Rattle.listing.specs.Listing.{frame_line, last_of}
 use Rattle.outlining.specs.declared.At.{At}
-use Rattle.outlining.specs.Outlined.{regionLines, outlinedFrame}
-use Rattle.outlining.specs.as_coded.Parts.{opening, partsFrom, rest_of, parts_at, standingAt, turnPart, next_at, Stands, TurnWrites}
+use Rattle.outlining.specs.Outlined.{region_lines, outlined_frame}
+use Rattle.outlining.specs.AsCoded.Parts.{opening, parts_from, rest_of, parts_at, standing_at, turn_part, next_at, Stands, TurnWrites}
 use Rattle.outlining.proofs.Sizes.{part_length}
 
 -- the parts ask of a trail its stop and the sum of codes, with those that are behind
-carried : (t : Inputs) (n k m : ℕ) (fs : List Frame) (w v : Trail) → w.stop ≡ v.stop → k + w.codes ≡ m + v.codes → partsFrom t n k fs w ≡ partsFrom t n m fs v
-unfolding partsFrom
+carried : (t : Inputs) (n k m : ℕ) (fs : List Frame) (w v : Trail) → w.stop ≡ v.stop → k + w.codes ≡ m + v.codes → parts_from t n k fs w ≡ parts_from t n m fs v
+unfolding parts_from
 carried t n k m [] w v p q = rw (p, q)
-carried t n k m (f ∷ fs) w v p q = ap (λ y. (opening n ++ outlinedFrame t n f) ∷ y) (carried t (n + 1) k m fs w v p q)
+carried t n k m (f ∷ fs) w v p q = ap (λ y. (opening n ++ outlined_frame t n f) ∷ y) (carried t (n + 1) k m fs w v p q)
 
 module _ (t : Inputs) (s : Any.Standing arm) (r : Any.Turn arm) (e : Turns arm (frames t) 256 s r) where
   -- a turn that goes on: its frame, and what is left from where the walk stands then
@@ -55,30 +55,30 @@ module _ (t : Inputs) (s : Any.Standing arm) (r : Any.Turn arm) (e : Turns arm (
         let k : 256 - s.frames ≡ suc (256 - (s.frames + 1)) = omega (arith, on.within) in
         ap (λ n. Loop.rest_of arm (frames t) n s) k ∙ goes_on arm (frames t) (256 - (s.frames + 1)) s on.caller on.going on.unwinds
 
-    pub turn_on : parts_at t s ≡ (opening s.frames ++ outlinedFrame t s.frames r.frame) ∷ parts_at t r.next
-    unfolding partsFrom
+    pub turn_on : parts_at t s ≡ (opening s.frames ++ outlined_frame t s.frames r.frame) ∷ parts_at t r.next
+    unfolding parts_from
     turn_on =
-        let f = opening s.frames ++ outlinedFrame t s.frames (Any.gone arm s on.caller).frame in
+        let f = opening s.frames ++ outlined_frame t s.frames (Any.gone arm s on.caller).frame in
         rw on.is
-        (ap (λ (w : Trail). partsFrom t s.frames s.codes w.frames w) rest-on
+        (ap (λ (w : Trail). parts_from t s.frames s.codes w.frames w) rest-on
         ∙ ap (λ y. f ∷ y) (carried t (s.frames + 1) s.codes (s.codes + arm.codes on.caller) (rest_of t after).frames _ (rest_of t after) refl (omega arith)))
 
   -- one that does not: the last line
   pub turn-off : s.frames ≤ 256 → r.on ≡ false → parts_at t s ≡ (opening s.frames ++ last_of r.stop s.frames s.codes) ∷ []
-  unfolding partsFrom
+  unfolding parts_from
   turn-off h o =
       let rest : rest_of t s ≡ AnyTrail.stopped arm r.stop = over arm (frames t) (256 - s.frames) e (omega arith) o in
       let z : s.codes + 0 ≡ s.codes = omega arith in
-      ap (λ (w : Trail). partsFrom t s.frames s.codes w.frames w) rest ∙ ap (λ k. (opening s.frames ++ last_of r.stop s.frames k) ∷ []) z
+      ap (λ (w : Trail). parts_from t s.frames s.codes w.frames w) rest ∙ ap (λ k. (opening s.frames ++ last_of r.stop s.frames k) ∷ []) z
 
 -- where the code stands, without the registers that are lent
-abbrev pub standOf : At → Standing
-standOf a = record { sp = a.regs.sp; lr = a.regs.lr; pc = a.regs.pc; end = a.end; frames = a.frames; codes = a.codes }
+abbrev pub stand_of : At → Standing
+stand_of a = record { sp = a.regs.sp; lr = a.regs.lr; pc = a.regs.pc; end = a.end; frames = a.frames; codes = a.codes }
 
 -- a turn in place prints the first of the parts that are left
-module _ (t : Inputs) (a : At) (h : Stands t a) (p : Standing) (q : p ≡ standOf a) (x : Going) (r d : List ℕ) (g : Goes t 256 (stands p a.regs.r a.regs.d) x r d) where
+module _ (t : Inputs) (a : At) (h : Stands t a) (p : Standing) (q : p ≡ stand_of a) (x : Going) (r d : List ℕ) (g : Goes t 256 (stands p a.regs.r a.regs.d) x r d) where
   abbrev s : Any.Standing arm
-  s = standingAt a
+  s = standing_at a
 
   abbrev T : Any.Turn arm
   T = Any.turn_of arm (frames t) 256 s
@@ -86,14 +86,14 @@ module _ (t : Inputs) (a : At) (h : Stands t a) (p : Standing) (q : p ≡ standO
   goes : Goes t 256 s x r d
   goes = subst (λ (y : Standing). Goes t 256 (stands y a.regs.r a.regs.d) x r d) q g
 
-  told : (b : Bool) → x.on ≡ b → parts_at t s ≡ turnPart t (standOf a) x ∷ (if x.on then parts_at t (stands x.next r d) else [])
+  told : (b : Bool) → x.on ≡ b → parts_at t s ≡ turn_part t (stand_of a) x ∷ (if x.on then parts_at t (stands x.next r d) else [])
   told true o =
       let n = a.frames in
       rw o
       (turn_on t s T (turns arm (frames t) 256 s) (sym goes.on ∙ o)
-      ∙ ap (λ (f : Frame). (opening n ++ outlinedFrame t n f) ∷ parts_at t T.next) (sym goes.frame)
-      ∙ ap (λ (y : Any.Standing arm). (opening n ++ outlinedFrame t n x.frame) ∷ parts_at t y) (sym (goes.next o))
-      ∙ ap (λ y. y ∷ parts_at t (stands x.next r d)) (sym (append_assoc (opening n) (frameLine n x.frame) (regionLines t x.frame))))
+      ∙ ap (λ (f : Frame). (opening n ++ outlined_frame t n f) ∷ parts_at t T.next) (sym goes.frame)
+      ∙ ap (λ (y : Any.Standing arm). (opening n ++ outlined_frame t n x.frame) ∷ parts_at t y) (sym (goes.next o))
+      ∙ ap (λ y. y ∷ parts_at t (stands x.next r d)) (sym (append_assoc (opening n) (frame_line n x.frame) (region_lines t x.frame))))
   told false o =
       rw (o, goes.stop, append-nil) (turn-off t s T (turns arm (frames t) 256 s) h.room (sym goes.on ∙ o))
 
@@ -108,16 +108,16 @@ module _ (t : Inputs) (a : At) (h : Stands t a) (p : Standing) (q : p ≡ standO
         room = subst (λ (y : Any.Standing arm). y.frames ≤ 256) (sym (goes.next o)) (turn-room t s T e on);
       }
 
-  pub turn-writes : {b z : List ℕ} {i n : ℕ} → Laid b i (turnPart t p x) n z → TurnWrites t a b i (record { place = n; on = x.on; next = next_at a x.next r d }) z
+  pub turn-writes : {b z : List ℕ} {i n : ℕ} → Laid b i (turn_part t p x) n z → TurnWrites t a b i (record { place = n; on = x.on; next = next_at a x.next r d }) z
   turn-writes {b} {z} {i} {n} l = record {
-    part = turnPart t (standOf a) x;
+    part = turn_part t (stand_of a) x;
     laid = laid;
     parts = told x.on refl;
-    short = part_length t (standOf a) x (omega (arith, h.room));
+    short = part_length t (stand_of a) x (omega (arith, h.room));
     same = refl;
     stands = next-stands;
     further = λ o. ap (λ (y : Any.Standing arm). y.frames) (goes.next o) ∙ turn-further t s T (turns arm (frames t) 256 s) (sym goes.on ∙ o);
   }
     where
-      laid : Laid b i (turnPart t (standOf a) x) n z
-      laid = subst (λ (y : Standing). Laid b i (turnPart t y x) n z) q l
+      laid : Laid b i (turn_part t (stand_of a) x) n z
+      laid = subst (λ (y : Standing). Laid b i (turn_part t y x) n z) q l

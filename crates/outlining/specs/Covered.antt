@@ -12,19 +12,19 @@ use Rattle.record.specs.Record.{shape_of}
 use Rattle.frame.specs.Frame.{Inputs}
 use Rattle.walking.specs.declared.Frame.{Frame}
 use Rattle.regions.specs.Table.{listed}
-use Rattle.outlining.specs.Outlined.{regionsBy, regionsAt}
+use Rattle.outlining.specs.Outlined.{regions_by, regions_at}
 
 -- the pc's offset in the function of a record (RULES 5.1)
-abbrev pub offsetIn : Inputs → (pc : ℕ) → Entry → ℕ
-offsetIn t pc e = even pc - t.image - e.start
+abbrev pub offset_in : Inputs → (pc : ℕ) → Entry → ℕ
+offset_in t pc e = even pc - t.image - e.start
 
 pub record Covers (t : Inputs) (pc : ℕ) (e : Entry) : Type 0 where
   pub found : find t.image t.pdata pc ≡ ok (some e)
   pub shape : Shape
   pub read : shape_of t.xdata e ≡ ok shape
-  pub inside : offsetIn t pc e < shape.span
+  pub inside : offset_in t pc e < shape.span
 
 -- a frame that a record covers is no leaf and has that record's regions; one that none covers is a leaf and has none
 pub data Regioned (t : Inputs) (f : Frame) : Type 0 where
-  covered : (e : Entry) → Covers t f.pc e → f.place ≢ Leaf → regionsAt t f.pc f.place ≡ regionsBy t e → Regioned t f
-  bare : ((e : Entry) → Covers t f.pc e → ⊥) → f.place ≡ Leaf → regionsAt t f.pc f.place ≡ listed [] → Regioned t f
+  covered : (e : Entry) → Covers t f.pc e → f.place ≢ Leaf → regions_at t f.pc f.place ≡ regions_by t e → Regioned t f
+  bare : ((e : Entry) → Covers t f.pc e → ⊥) → f.place ≡ Leaf → regions_at t f.pc f.place ≡ listed [] → Regioned t f

@@ -1,4 +1,4 @@
 pub mod Outlined
 pub mod Stripped
 pub mod Covered
-pub mod as_coded
+pub mod AsCoded

@@ -20,43 +20,43 @@ use Rattle.walking.specs.Walk.{Trail, walk}
 use Rattle.walking.specs.declared.Frame.{Frame}
 use Rattle.report.specs.Report.{report}
 use Rattle.text.specs.Text.{text}
-use Rattle.listing.specs.Listing.{refusedText, frameLine, lastLine}
-use Rattle.regions.specs.Table.{Listed, listed, regionsOf}
-use Rattle.region_text.specs.RegionText.{regionsText}
+use Rattle.listing.specs.Listing.{refused_text, frame_line, last_line}
+use Rattle.regions.specs.Table.{Listed, listed, regions_of}
+use Rattle.region_text.specs.RegionText.{regions_text}
 
 -- the regions of a.pdata record: a packed one has none (RULES 2.2)
-abbrev pub regionsBy : Inputs → Entry → Listed
-regionsBy t e = if eqb (bits 0 2 e.word) 0 then regionsOf t.xdata e.word else listed []
+abbrev pub regions_by : Inputs → Entry → Listed
+regions_by t e = if eqb (bits 0 2 e.word) 0 then regions_of t.xdata e.word else listed []
 
 -- of the record found for a pc
-abbrev pub regionsFound : Inputs → Res (Option Entry) → Listed
-regionsFound t found = either found (λ r. listed []) (λ e. maybe e (listed []) (regionsBy t))
+abbrev pub regions_found : Inputs → Res (Option Entry) → Listed
+regions_found t found = either found (λ r. listed []) (λ e. maybe e (listed []) (regions_by t))
 
 -- of the record that covers a frame that was listed: at every place but a leaf it is the one found (RULES 5.2, 8.14)
-abbrev pub regionsAt : Inputs → (pc : ℕ) → Place → Listed
-regionsAt t pc Leaf = listed []
-regionsAt t pc Prologue = regionsFound t (find t.image t.pdata pc)
-regionsAt t pc Body = regionsFound t (find t.image t.pdata pc)
-regionsAt t pc Epilogue = regionsFound t (find t.image t.pdata pc)
+abbrev pub regions_at : Inputs → (pc : ℕ) → Place → Listed
+regions_at t pc Leaf = listed []
+regions_at t pc Prologue = regions_found t (find t.image t.pdata pc)
+regions_at t pc Body = regions_found t (find t.image t.pdata pc)
+regions_at t pc Epilogue = regions_found t (find t.image t.pdata pc)
 
 -- their text, for the frame's pc as an RVA (RULES 8.16)
-abbrev pub regionLines : Inputs → Frame → List ℕ
-regionLines t f = regionsText (f.pc - t.image) (regionsAt t f.pc f.place)
+abbrev pub region_lines : Inputs → Frame → List ℕ
+region_lines t f = regions_text (f.pc - t.image) (regions_at t f.pc f.place)
 
-abbrev pub outlinedFrame : Inputs → ℕ → Frame → List ℕ
-outlinedFrame t n f = frameLine n f ++ regionLines t f
+abbrev pub outlined_frame : Inputs → ℕ → Frame → List ℕ
+outlined_frame t n f = frame_line n f ++ region_lines t f
 
 -- the frames, the first of which has this number
-unfoldable pub outlinedFrames : Inputs → ℕ → List Frame → List ℕ
-outlinedFrames t n [] = []
-outlinedFrames t n (f ∷ fs) = outlinedFrame t n f ++ outlinedFrames t (n + 1) fs
+unfoldable pub outlined_frames : Inputs → ℕ → List Frame → List ℕ
+outlined_frames t n [] = []
+outlined_frames t n (f ∷ fs) = outlined_frame t n f ++ outlined_frames t (n + 1) fs
 
 abbrev pub heading : List ℕ
 heading = text "frame pc sp place\n"
 
-unfoldable pub outlinedWalk : Inputs → Trail → List ℕ
-outlinedWalk t w = heading ++ outlinedFrames t 0 w.frames ++ lastLine w
+unfoldable pub outlined_walk : Inputs → Trail → List ℕ
+outlined_walk t w = heading ++ outlined_frames t 0 w.frames ++ last_line w
 
 -- a report's bytes in, the outline out
 unfoldable pub outlined : List ℕ → List ℕ
-outlined s = either (report s) (λ r. refusedText r ++ text "\n") (λ p. outlinedWalk p.inputs (walk p.inputs 256 p.regs))
+outlined s = either (report s) (λ r. refused_text r ++ text "\n") (λ p. outlined_walk p.inputs (walk p.inputs 256 p.regs))

@@ -10,17 +10,17 @@ pub data Where : Type 0 where
   dropped : Where
 
 -- after a byte of a line that is kept, or left out
-abbrev pub afterKept : ℕ → Where
-afterKept c = if eqb c 0x0A then start else kept
+abbrev pub after_kept : ℕ → Where
+after_kept c = if eqb c 0x0A then start else kept
 
-abbrev pub afterDropped : ℕ → Where
-afterDropped c = if eqb c 0x0A then start else dropped
+abbrev pub after_dropped : ℕ → Where
+after_dropped c = if eqb c 0x0A then start else dropped
 
-unfoldable pub strippedFrom : Where → List ℕ → List ℕ
-strippedFrom w [] = []
-strippedFrom start (c ∷ t) = if eqb c 0x20 then strippedFrom dropped t else c ∷ strippedFrom (afterKept c) t
-strippedFrom kept (c ∷ t) = c ∷ strippedFrom (afterKept c) t
-strippedFrom dropped (c ∷ t) = strippedFrom (afterDropped c) t
+unfoldable pub stripped_from : Where → List ℕ → List ℕ
+stripped_from w [] = []
+stripped_from start (c ∷ t) = if eqb c 0x20 then stripped_from dropped t else c ∷ stripped_from (after_kept c) t
+stripped_from kept (c ∷ t) = c ∷ stripped_from (after_kept c) t
+stripped_from dropped (c ∷ t) = stripped_from (after_dropped c) t
 
 abbrev pub stripped : List ℕ → List ℕ
-stripped s = strippedFrom start s
+stripped s = stripped_from start s

@@ -2,12 +2,12 @@
 // nor writes.
 ghost use mathlib.Core.List.{[], flatten};
 ghost use Rattle.std.specs.Prelude.{◌≡◌, ◌-◌, ◌≤◌, length};
-ghost use Rattle.pdata.specs.Pdata.{find, checked as startsOf};
+ghost use Rattle.pdata.specs.Pdata.{find, checked as starts_of};
 ghost use Rattle.frame.specs.Frame.{inputs};
 ghost use Rattle.text.specs.Overlay.{overlay, Laid};
-ghost use Rattle.region_text.specs.RegionText.{regionsText};
-ghost use Rattle.outlining.specs.Outlined.{regionsBy, regionsFound, regionLines, outlined};
-ghost use Rattle.outlining.specs.as_coded.Parts.{opening, turnPart, next_at, Stands, TurnWrites, Ready, Writes, begunAt, inputsAt, standingAt, parts_at};
+ghost use Rattle.region_text.specs.RegionText.{regions_text};
+ghost use Rattle.outlining.specs.Outlined.{regions_by, regions_found, region_lines, outlined};
+ghost use Rattle.outlining.specs.AsCoded.Parts.{opening, turn_part as spec_turn_part, next_at, Stands, TurnWrites, Ready, Writes, begun_at, inputs_at, standing_at, parts_at};
 
 use machine::Regs;
 use pdata::{Checked, Entry, Found};
@@ -69,7 +69,7 @@ fn put_record(
     e: Entry,
     pc: u32,
 ) -> usize
-    ensures { Laid out.old at (regionsText (pc - image) (regionsBy (inputs image [] rva xdata.now 0 []) e)) result out.new }
+    ensures { Laid out.old at (regions_text (pc - image) (regions_by (inputs image [] rva xdata.now 0 []) e)) result out.new }
 {
     if words::bits(e.word, 0, 2) == 0 {
         return region_text::put_regions(out, at, rva, xdata, e.word, rva_of(image, pc));
@@ -88,8 +88,8 @@ fn put_found(
     xdata: &[u8],
     pc: u32,
 ) -> usize
-    requires { starts ≡ startsOf pdata.now }
-    ensures { Laid out.old at (regionsText (pc - image) (regionsFound (inputs image pdata.now rva xdata.now 0 []) (find image pdata.now pc))) result out.new }
+    requires { starts ≡ starts_of pdata.now }
+    ensures { Laid out.old at (regions_text (pc - image) (regions_found (inputs image pdata.now rva xdata.now 0 []) (find image pdata.now pc))) result out.new }
 {
     let found = pdata::find_in(starts, image, pdata, pc);
     match found {
@@ -110,8 +110,8 @@ fn put_lines(
     xdata: &[u8],
     f: Frame,
 ) -> usize
-    requires { starts ≡ startsOf pdata.now }
-    ensures { Laid out.old at (regionLines (inputs image pdata.now rva xdata.now 0 []) f) result out.new }
+    requires { starts ≡ starts_of pdata.now }
+    ensures { Laid out.old at (region_lines (inputs image pdata.now rva xdata.now 0 []) f) result out.new }
 {
     let place = f.place;
     match place {
@@ -144,8 +144,8 @@ fn put_turn(
     s: Standing,
     x: Going,
 ) -> usize
-    requires { starts ≡ startsOf pdata.now }
-    ensures { Laid out.old at (turnPart (inputs image pdata.now rva xdata.now 0 []) s x) result out.new }
+    requires { starts ≡ starts_of pdata.now }
+    ensures { Laid out.old at (spec_turn_part (inputs image pdata.now rva xdata.now 0 []) s x) result out.new }
 {
     let frame = x.frame;
     let next = put_opening(out, at, s.frames);
@@ -238,7 +238,7 @@ pub fn next_part(file: &[u8], a: At, out: &mut [u8], at: usize) -> Part
 
 // Before the first part: the report is read, and its tables are checked, once.
 pub fn begin(file: &[u8]) -> Begun
-    ensures { result ≡ begunAt file.now }
+    ensures { result ≡ begun_at file.now }
 {
     let p = read_report(file);
     let verdict = p.verdict;
@@ -272,7 +272,7 @@ pub fn begin(file: &[u8]) -> Begun
 // All parts from where an outline stands, one behind the other from the buffer's start.
 fn put_parts(file: &[u8], a: At, out: &mut [u8]) -> usize
     requires { Ready file.now a }
-    ensures { Laid out.old 0 (flatten (parts_at (inputsAt file.now a) (standingAt a))) result out.new }
+    ensures { Laid out.old 0 (flatten (parts_at (inputs_at file.now a) (standing_at a))) result out.new }
 {
     let mut s = a;
     let mut next = 0;

@@ -8,11 +8,11 @@ use lib.Dec.{eqb}
 use native.Mathlib.Omega.{arith}
 use Rattle.words.specs.Bits.{bits}
 use Rattle.words.specs.Answer.{if◌then◌else◌}
-use Rattle.codes.specs.Table.{range, lrIf}
+use Rattle.codes.specs.Table.{range, lr_if}
 use Rattle.codes.proofs.Registers.{RegisterList, range-r4, joined-others, made-lr, made_list}
 use Rattle.packed.specs.Packed.{Fit, fields, integers}
 use Rattle.packed.specs.declared.Packed.{Packed}
-use Rattle.packed.proofs.Words.{fields_fit}
+use Rattle.packed.proofs.Words.{fields_fit_lem}
 
 -- r0 to r3 are four bits
 pub range-r3 : (k : ℕ) → range (3 - k) 3 < 16
@@ -32,15 +32,15 @@ integers-small p fold f = go (eqb p.r 0) fold
     go false false = omega (arith, f.c)
 
 -- the list of a word, LR in it, taken apart
-module _ (w : ℕ) (fold : Bool) (list : ℕ) (e : list ≡ integers (fields w) fold + lrIf (fields w).l) where
+module _ (w : ℕ) (fold : Bool) (list : ℕ) (e : list ≡ integers (fields w) fold + lr_if (fields w).l) where
   pub word-others : bits 0 13 list ≡ integers (fields w) fold
-  word-others = ap (bits 0 13) e ∙ joined-others (integers (fields w) fold) (integers-small (fields w) fold (fields_fit w)) (fields w).l
+  word-others = ap (bits 0 13) e ∙ joined-others (integers (fields w) fold) (integers-small (fields w) fold (fields_fit_lem w)) (fields w).l
 
-  pub word_made : list ≡ bits 0 13 list + lrIf (fields w).l
-  word_made = e ∙ ap (λ l. l + lrIf (fields w).l) (sym word-others)
+  pub word_made : list ≡ bits 0 13 list + lr_if (fields w).l
+  word_made = e ∙ ap (λ l. l + lr_if (fields w).l) (sym word-others)
 
   pub word-lr : bits 14 1 list ≡ (fields w).l
-  word-lr = made-lr list (fields w).l word_made (fields_fit w).l
+  word-lr = made-lr list (fields w).l word_made (fields_fit_lem w).l
 
   pub word-list : RegisterList list
-  word-list = made_list list (fields w).l word_made (fields_fit w).l
+  word-list = made_list list (fields w).l word_made (fields_fit_lem w).l

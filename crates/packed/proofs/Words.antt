@@ -10,11 +10,11 @@ use borrow.Author.Tests.{ltb-true, lt-ltb}
 use Rattle.words.proofs.Tests.{both}
 use Rattle.words.specs.declared.Refusal.TheVariants.{Reserved}
 use Rattle.words.specs.Answer.{ok, refuse}
-use Rattle.packed.specs.Packed.{Fit, fields, fieldsFit, allowed, word_of, writeWord}
+use Rattle.packed.specs.Packed.{Fit, fields, fields_fit, allowed, word_of, write_word}
 use Rattle.packed.specs.declared.Packed.{Packed}
 
 -- where the test holds each field is below what its bits hold
-pub fit-true : (p : Packed) → fieldsFit p ≡ true → Fit p
+pub fit-true : (p : Packed) → fields_fit p ≡ true → Fit p
 fit-true p t8 =
     let h8 = both _ (ltb p.adjust 1024) t8 in
     let h7 = both _ (ltb p.c 2) h8.0 in
@@ -26,31 +26,31 @@ fit-true p t8 =
     let h1 = both (ltb p.flag 4) (ltb p.length.0 2048) h2.0 in
     record { flag = ltb-true _ _ h1.0; length = ltb-true _ _ h1.1; ret = ltb-true _ _ h2.1; h = ltb-true _ _ h3.1; reg = ltb-true _ _ h4.1; r = ltb-true _ _ h5.1; l = ltb-true _ _ h6.1; c = ltb-true _ _ h7.1; adjust = ltb-true _ _ h8.1 }
 
-pub true-fit : (p : Packed) → Fit p → fieldsFit p ≡ true
+pub true-fit : (p : Packed) → Fit p → fields_fit p ≡ true
 true-fit p f =
     rw (lt-ltb p.flag 4 f.flag, lt-ltb p.length.0 2048 f.length, lt-ltb p.ret 4 f.ret, lt-ltb p.h 2 f.h, lt-ltb p.reg 8 f.reg, lt-ltb p.r 2 f.r, lt-ltb p.l 2 f.l, lt-ltb p.c 2 f.c, lt-ltb p.adjust 1024 f.adjust)
     refl
 
-pub write-given : (p : Packed) → fieldsFit p ≡ true → allowed p ≡ true → writeWord p ≡ ok (word_of p)
-unfolding writeWord
+pub write-given : (p : Packed) → fields_fit p ≡ true → allowed p ≡ true → write_word p ≡ ok (word_of p)
+unfolding write_word
 write-given p f h = rw (f, h) refl
 
 -- a field that does not fit its bits is refused by 4 (RULES 9.55), and so are fields that are not allowed
-pub write-large : (p : Packed) → fieldsFit p ≡ false → writeWord p ≡ refuse Reserved
-unfolding writeWord
+pub write-large : (p : Packed) → fields_fit p ≡ false → write_word p ≡ refuse Reserved
+unfolding write_word
 write-large p h = rw h refl
 
-pub write-not-allowed : (p : Packed) → allowed p ≡ false → writeWord p ≡ refuse Reserved
-unfolding writeWord
-write-not-allowed p h = go (fieldsFit p) refl
+pub write-not-allowed : (p : Packed) → allowed p ≡ false → write_word p ≡ refuse Reserved
+unfolding write_word
+write-not-allowed p h = go (fields_fit p) refl
   where
-    go : (t : Bool) → fieldsFit p ≡ t → writeWord p ≡ refuse Reserved
+    go : (t : Bool) → fields_fit p ≡ t → write_word p ≡ refuse Reserved
     go true f = rw (f, h) refl
     go false f = write-large p f
 
 -- a reader's fields fit
-pub fields_fit : (w : ℕ) → Fit (fields w)
-fields_fit w =
+pub fields_fit_lem : (w : ℕ) → Fit (fields w)
+fields_fit_lem w =
     record { flag = omega arith; length = omega arith; ret = omega arith; h = omega arith; reg = omega arith; r = omega arith; l = omega arith; c = omega arith; adjust = omega arith }
 
 -- a field between what stands below and above it
@@ -119,15 +119,15 @@ word_small : (p : Packed) → Fit p → word_of p < 2 ^ 32
 word_small p f = omega (arith, f.flag, f.length, f.ret, f.h, f.reg, f.r, f.l, f.c, f.adjust)
 
 -- the writer and the reader are inverse on what they accept
-pub write-then-read : (p : Packed) (w : ℕ) → writeWord p ≡ ok w → (fields w ≡ p) × (w < 2 ^ 32)
-write-then-read p w h = go (fieldsFit p) refl (allowed p) refl
+pub write-then-read : (p : Packed) (w : ℕ) → write_word p ≡ ok w → (fields w ≡ p) × (w < 2 ^ 32)
+write-then-read p w h = go (fields_fit p) refl (allowed p) refl
   where
-    go : (s : Bool) → fieldsFit p ≡ s → (t : Bool) → allowed p ≡ t → (fields w ≡ p) × (w < 2 ^ 32)
+    go : (s : Bool) → fields_fit p ≡ s → (t : Bool) → allowed p ≡ t → (fields w ≡ p) × (w < 2 ^ 32)
     go true f true e =
         let word : word_of p ≡ w = cc (write-given p f e) in
         let fit = fit-true p f in (rw word at (fields-of-word p fit), rw word at (word_small p fit))
     go true f false e = absurd (let z : ◌≡◌ {A = ℕ} 0 1 = cc (write-not-allowed p e) in omega arith)
     go false f t e = absurd (let z : ◌≡◌ {A = ℕ} 0 1 = cc (write-large p f) in omega arith)
 
-pub read-then-write : (w : ℕ) → w < 2 ^ 32 → allowed (fields w) ≡ true → writeWord (fields w) ≡ ok w
-read-then-write w h a = write-given (fields w) (true-fit (fields w) (fields_fit w)) a ∙ ap ok (word-of-fields w h)
+pub read-then-write : (w : ℕ) → w < 2 ^ 32 → allowed (fields w) ≡ true → write_word (fields w) ≡ ok w
+read-then-write w h a = write-given (fields w) (true-fit (fields w) (fields_fit_lem w)) a ∙ ap ok (word-of-fields w h)

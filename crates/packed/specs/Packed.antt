@@ -8,7 +8,7 @@ use Rattle.std.specs.Prelude.{ℕ, ◌+◌, ◌-◌, ◌*◌, ◌%◌, ◌^◌, 
 use Rattle.words.specs.declared.StackWords.{StackWords}
 use Rattle.words.specs.declared.Refusal.TheVariants.{Reserved}
 use Rattle.words.specs.Bits.{bits, bit}
-use Rattle.words.specs.Units.{halfwords, halfwordBytes, stack_words}
+use Rattle.words.specs.Units.{halfwords, halfword_bytes, stack_words}
 use Rattle.words.specs.Answer.{Res, ok, need, if◌then◌else◌, verdict, or_else, ◌>>=◌, ◌>>◌}
 use Rattle.codes.specs.Table.{range}
 use Rattle.packed.specs.declared.Packed.{Packed}
@@ -24,8 +24,8 @@ word_of p =
     + 2 ^ 22 * p.adjust
 
 -- each field fits its bits (RULES 9.55)
-abbrev pub fieldsFit : Packed → Bool
-fieldsFit p =
+abbrev pub fields_fit : Packed → Bool
+fields_fit p =
     ltb p.flag (2 ^ 2) && ltb p.length.0 (2 ^ 11) && ltb p.ret (2 ^ 2) && ltb p.h 2 && ltb p.reg (2 ^ 3) && ltb p.r 2
     && ltb p.l 2
     && ltb p.c 2
@@ -38,13 +38,13 @@ allowed p =
     && not (eqb p.c 1 && eqb p.r 0 && eqb p.reg 7)
 
 -- the word's writer (RULES 4.18)
-unfoldable pub writeWord : Packed → Res ℕ
-writeWord p = do
-  need (fieldsFit p && allowed p) Reserved
+unfoldable pub write_word : Packed → Res ℕ
+write_word p = do
+  need (fields_fit p && allowed p) Reserved
   ok (word_of p)
 
-abbrev pub wordAnswer : Res ℕ → WordOf
-wordAnswer r = record { verdict = verdict r; word = or_else r 0 }
+abbrev pub word_answer : Res ℕ → WordOf
+word_answer r = record { verdict = verdict r; word = or_else r 0 }
 
 -- what Stack Adjust says: the amount, and whether push (PF) and pop (EF) make it (RULES 4.2)
 abbrev pub folded : Packed → Bool
@@ -65,11 +65,11 @@ integers p fold =
     (if eqb p.r 0 then range 4 (4 + p.reg) else 0) + (if fold then range (3 - p.adjust % 4) 3 else 0) + p.c * 2 ^ 11
 
 -- the function's length in bytes, and whether it has no prologue (RULES 4.17)
-abbrev pub packedSpan : Packed → ℕ
-packedSpan p = halfwordBytes p.length
+abbrev pub packed_span : Packed → ℕ
+packed_span p = halfword_bytes p.length
 
-abbrev pub packedFragment : Packed → Bool
-packedFragment p = eqb p.flag 2
+abbrev pub packed_fragment : Packed → Bool
+packed_fragment p = eqb p.flag 2
 
 -- each field below what its bits hold
 pub record Fit (p : Packed) : Type 0 where

@@ -1,9 +1,9 @@
 // Packed words: their fields, the word's writer, the stack adjustment and the registers that they stand for. It knows neither registers'
 // values nor the stack.
 ghost use Rattle.std.specs.Prelude.{◌≡◌, ◌+◌, ◌-◌, ◌*◌, ◌%◌, ◌^◌, ◌<◌, ◌≤◌, eqb};
-ghost use Rattle.codes.specs.Table.{range as range_of, lrIf};
+ghost use Rattle.codes.specs.Table.{range as range_of, lr_if as spec_lr_if};
 ghost use Rattle.words.specs.Answer.{if◌then◌else◌};
-ghost use Rattle.packed.specs.Packed.{Fit, fields as fields_of, fieldsFit, allowed as allowedOf, word_of, writeWord, wordAnswer, folded as foldedOf, amount as amountOf, PF, EF, integers as integersOf};
+ghost use Rattle.packed.specs.Packed.{Fit, fields as fields_of, fields_fit as spec_fields_fit, allowed as allowed_of, word_of, write_word as spec_write_word, word_answer, folded as folded_of, amount as amount_of, PF, EF, integers as integers_of};
 
 use codes::list::{from_r4, lr_if, range};
 use words::{Halfwords, Refusal, StackWords, Verdict, bit, bits};
@@ -48,7 +48,7 @@ pub fn fields(word: u32) -> Packed
 
 // Whether each field fits its bits (RULES 9.55).
 fn fields_fit(p: Packed) -> bool
-    ensures { result ≡ fieldsFit p }
+    ensures { result ≡ spec_fields_fit p }
 {
     let length = p.length;
     p.flag < 4
@@ -64,7 +64,7 @@ fn fields_fit(p: Packed) -> bool
 
 // Whether a packed word may have these fields: Flag 1 or 2 (RULES 9.55), and nothing that RULES 4.5 rules out.
 pub fn allowed(p: Packed) -> bool
-    ensures { result ≡ allowedOf p }
+    ensures { result ≡ allowed_of p }
 {
     (p.flag == 1 || p.flag == 2)
         && !(p.ret == 0 && p.l == 0)
@@ -91,7 +91,7 @@ fn word_of(p: Packed) -> u32
 
 // The packed word of these fields.
 pub fn write_word(p: Packed) -> WordOf
-    ensures { result ≡ wordAnswer (writeWord p) }
+    ensures { result ≡ word_answer (spec_write_word p) }
 {
     if fields_fit(p) && allowed(p) {
         return WordOf {
@@ -107,14 +107,14 @@ pub fn write_word(p: Packed) -> WordOf
 
 // Whether Stack Adjust holds PF and EF beside the amount.
 fn folded(p: Packed) -> bool
-    ensures { result ≡ foldedOf p }
+    ensures { result ≡ folded_of p }
 {
     0x3F4 <= p.adjust
 }
 
 // The stack adjustment.
 pub fn amount(p: Packed) -> StackWords
-    ensures { result ≡ amountOf p }
+    ensures { result ≡ amount_of p }
 {
     if folded(p) {
         StackWords(bits(p.adjust, 0, 2) + 1)
@@ -137,7 +137,7 @@ pub fn ef(p: Packed) -> bool
     folded(p) && bit(p.adjust, 3)
 }
 
-// r4 to rN, which Reg names, if R=0 (RULES 4.3).
+// r4 to r_n, which Reg names, if R=0 (RULES 4.3).
 fn saved(p: Packed) -> u32
     requires { Fit p }
     ensures { (result ≡ (if eqb p.r 0 then range_of 4 (4 + p.reg) else 0)) × (result < 4096) }
@@ -148,7 +148,7 @@ fn saved(p: Packed) -> u32
     0
 }
 
-// rS to r3, which a folded adjustment adds (RULES 4.3).
+// r_s to r3, which a folded adjustment adds (RULES 4.3).
 fn homed(adjust: u32, fold: bool) -> u32
     ensures { (result ≡ (if fold then range_of (3 - adjust % 4) 3 else 0)) × (result < 16) }
 {
@@ -172,14 +172,14 @@ fn chained(p: Packed) -> u32
 // The integer list (RULES 4.3).
 fn list(p: Packed, fold: bool) -> u32
     requires { Fit p }
-    ensures { result ≡ integersOf p fold + lrIf p.l }
+    ensures { result ≡ integers_of p fold + spec_lr_if p.l }
 {
     saved(p) + homed(p.adjust, fold) + chained(p) + lr_if(p.l == 1)
 }
 
-// The integer list of a packed word, LR in it if L=1, and rS-r3 if the adjustment is folded.
+// The integer list of a packed word, LR in it if L=1, and r_s-r3 if the adjustment is folded.
 pub fn registers(word: u32, fold: bool) -> u32
-    ensures { result ≡ integersOf (fields_of word) fold + lrIf (fields_of word).l }
+    ensures { result ≡ integers_of (fields_of word) fold + spec_lr_if (fields_of word).l }
 {
     list(fields(word), fold)
 }

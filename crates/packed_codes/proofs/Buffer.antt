@@ -7,7 +7,7 @@ use lib.ListN.{length, take, replicate, set, length-append}
 use lib.Seq.{set-append_seam, append_snoc, take-append-add}
 use native.Mathlib.Omega.{arith}
 use borrow.Author.Tests.{lt-ltb}
-use Rattle.packed_codes.specs.as_coded.Out.{Out, put_of, puts}
+use Rattle.packed_codes.specs.AsCoded.Out.{Out, put_of, puts}
 
 -- one piece after another
 pub joined : (o : Out) {x y : Out} (a b : List ℕ) → x ≡ puts o a → y ≡ puts x b → y ≡ puts o (a ++ b)

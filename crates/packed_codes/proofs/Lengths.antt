@@ -10,8 +10,8 @@ use native.Mathlib.Omega.{arith}
 use Rattle.words.specs.declared.StackWords.{StackWords}
 use Rattle.words.specs.Answer.{if◌then◌else◌}
 use Rattle.packed.specs.Packed.{amount, PF, EF, integers}
-use Rattle.packed_codes.specs.PackedCodes.{when, upCode, vpopCode, up_to, dForm, popCode, low, pushed, chainCode, firstList, leave, secondList}
-use Rattle.packed_codes.specs.Chain.{firstBefore}
+use Rattle.packed_codes.specs.PackedCodes.{when, up_code, vpop_code, up_to, d_form, pop_code, low, pushed, chain_code, first_list, leave, second_list}
+use Rattle.packed_codes.specs.Chain.{first_before}
 use Rattle.packed.specs.declared.Packed.{Packed}
 
 -- at most n bytes
@@ -38,27 +38,27 @@ if-short false s t = t
 join : {k l : List ℕ} {m n : ℕ} → Short k m → Short l n → Short (k ++ l) (m + n)
 join {k} {l} s t = record { most = omega (arith, length-append k l, s.most, t.most) }
 
-up-short : (n : StackWords) → Short (upCode n) 2
+up-short : (n : StackWords) → Short (up_code n) 2
 up-short n = when-short (not (eqb n.0 0)) (if-short (leb n.0 127) (more 2 one (omega arith)) two)
 
-vpop-short : (p : Packed) → Short (vpopCode p) 1
+vpop-short : (p : Packed) → Short (vpop_code p) 1
 vpop-short p = when-short (eqb p.r 1 && not (eqb p.reg 7)) one
 
-d-short : (x : Option ℕ) (f b : ℕ) {other : List ℕ} → Short other 2 → Short (dForm x f b other) 2
+d-short : (x : Option ℕ) (f b : ℕ) {other : List ℕ} → Short other 2 → Short (d_form x f b other) 2
 d-short none f b s = s
 d-short (some x) f b s = more 2 one (omega arith)
 
-pop-short : (narrow : Bool) (l b : ℕ) → Short (popCode narrow l b) 2
+pop-short : (narrow : Bool) (l b : ℕ) → Short (pop_code narrow l b) 2
 pop-short true l b = when-short (not (eqb (l + b) 0)) (d-short (up_to 4 4 l) 0xD0 b two)
 pop-short false l b = when-short (not (eqb (l + b) 0)) (d-short (up_to 4 8 l) 0xD8 b two)
 
 -- the first list with this byte as the nop, for C=1
-abbrev pub firstWith : Packed → (nop : ℕ) → List ℕ
-firstWith p n =
+abbrev pub first_with : Packed → (nop : ℕ) → List ℕ
+first_with p n =
     let l : ℕ = integers p (PF p) in
-    when (not (PF p)) (upCode (amount p)) ++ vpopCode p ++ when (eqb p.c 1) (n ∷ []) ++ popCode (low l) l p.l ++ when (eqb p.h 1) (0x04 ∷ []) ++ (0xFF ∷ [])
+    when (not (PF p)) (up_code (amount p)) ++ vpop_code p ++ when (eqb p.c 1) (n ∷ []) ++ pop_code (low l) l p.l ++ when (eqb p.h 1) (0x04 ∷ []) ++ (0xFF ∷ [])
 
-with-most : (p : Packed) (nop : ℕ) → Short (firstWith p nop) 8
+with-most : (p : Packed) (nop : ℕ) → Short (first_with p nop) 8
 with-most p n =
     let l : ℕ = integers p (PF p) in
     let sub = when-short (not (PF p)) (up-short (amount p)) in
@@ -66,12 +66,12 @@ with-most p n =
     let home = when-short (eqb p.h 1) {l = 0x04 ∷ []} one in
     join (join (join (join (join sub (vpop-short p)) nop) (pop-short (low l) l p.l)) home) (one {a = 0xFF})
 
-first-most : (p : Packed) → Short (firstList p) 8
-unfolding firstList
-first-most p = with-most p (chainCode (pushed p))
+first-most : (p : Packed) → Short (first_list p) 8
+unfolding first_list
+first-most p = with-most p (chain_code (pushed p))
 
-before-most : (p : Packed) → Short (firstBefore p) 8
-unfolding firstBefore
+before-most : (p : Packed) → Short (first_before p) 8
+unfolding first_before
 before-most p = with-most p 0xFC
 
 leave-short : (p : Packed) (l : ℕ) → Short (leave p l) 5
@@ -82,14 +82,14 @@ leave-short p l =
     let jump = more 5 (join (join (pop-short (low l && eqb p.l 0) l p.l) home) (one {a = 0xFC + p.ret})) (omega arith) in
     if-short (eqb p.h 1 && eqb p.l 1) load (if-short (eqb p.ret 0) return jump)
 
-second-most : (p : Packed) → Short (secondList p) 8
-unfolding secondList
+second-most : (p : Packed) → Short (second_list p) 8
+unfolding second_list
 second-most p =
     let add = when-short (not (EF p)) (up-short (amount p)) in
     when-short (not (eqb p.ret 3)) (join (join add (vpop-short p)) (leave-short p (integers p (EF p))))
 
-pub lists-fit : (p : Packed) → length (firstList p) + length (secondList p) ≤ 16
+pub lists-fit : (p : Packed) → length (first_list p) + length (second_list p) ≤ 16
 lists-fit p = omega (arith, (first-most p).most, (second-most p).most)
 
-pub before-fit : (p : Packed) → length (firstBefore p) + length (secondList p) ≤ 16
+pub before-fit : (p : Packed) → length (first_before p) + length (second_list p) ≤ 16
 before-fit p = omega (arith, (before-most p).most, (second-most p).most)

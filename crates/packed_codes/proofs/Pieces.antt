@@ -11,17 +11,17 @@ use borrow.Author.Tests.{lt-ltb, le-ltb, eq-eqb, ne_eqb}
 use Rattle.words.specs.Bits.{bits}
 use Rattle.words.specs.Units.{stack_words}
 use Rattle.words.specs.Answer.{if◌then◌else◌}
-use Rattle.codes.specs.Table.{range, lrIf}
+use Rattle.codes.specs.Table.{range, lr_if}
 use Rattle.packed.specs.Packed.{Fit, fields, amount, folded, EF, integers}
-use Rattle.packed.proofs.Words.{fields_fit}
-use Rattle.packed_codes.specs.PackedCodes.{when, upCode, vpopCode, up_to, dForm, popSized, popCode, low, leave, secondList}
+use Rattle.packed.proofs.Words.{fields_fit_lem}
+use Rattle.packed_codes.specs.PackedCodes.{when, up_code, vpop_code, up_to, d_form, pop_sized, pop_code, low, leave, second_list}
 use Rattle.packed.specs.declared.Packed.{Packed}
-use Rattle.packed_codes.specs.as_coded.Out.{top_of}
+use Rattle.packed_codes.specs.AsCoded.Out.{top_of}
 use Rattle.packed_codes.specs.declared.Top.TheVariants.{Register, Other}
 
 -- what is read from a word fits its fields
 pub read-fit : (w : ℕ) (p : Packed) → p ≡ fields w → Fit p
-read-fit w p e = rw e (fields_fit w)
+read-fit w p e = rw e (fields_fit_lem w)
 
 -- the amount: below 1,024 words
 pub amount-small : (p : Packed) → Fit p → (amount p).0 < 1024
@@ -32,11 +32,11 @@ amount-small p f = go (folded p)
     go false = f.adjust
 
 -- a list of r0-r12 and LR, taken apart: the code of its pop, where it is empty and where it is not
-module _ (list : ℕ) (made : list ≡ bits 0 13 list + lrIf (bits 14 1 list)) (w : Bool) where
-  pub list-none : list ≡ 0 → popCode w (bits 0 13 list) (bits 14 1 list) ≡ []
+module _ (list : ℕ) (made : list ≡ bits 0 13 list + lr_if (bits 14 1 list)) (w : Bool) where
+  pub list-none : list ≡ 0 → pop_code w (bits 0 13 list) (bits 14 1 list) ≡ []
   list-none e = rw (eq-eqb (bits 0 13 list + bits 14 1 list) 0 (omega arith)) refl
 
-  pub list-some : (list ≡ 0 → ⊥) → popSized w (bits 0 13 list) (bits 14 1 list) ≡ popCode w (bits 0 13 list) (bits 14 1 list)
+  pub list-some : (list ≡ 0 → ⊥) → pop_sized w (bits 0 13 list) (bits 14 1 list) ≡ pop_code w (bits 0 13 list) (bits 14 1 list)
   list-some n = rw (ne_eqb (bits 0 13 list + bits 14 1 list) 0 (λ z. n (omega arith))) refl
 
 -- r8-r12 of a list: none of them, and it has low registers only, or some
@@ -49,27 +49,27 @@ module _ (list : ℕ) where
 
 -- the end of an epilogue
 pub leave-load :
-    (p : Packed) (l : ℕ) → (eqb p.h 1 && eqb p.l 1) ≡ true → leave p l ≡ popCode (low l) l 0 ++ (0xEF ∷ 0x05 ∷ 0xFF ∷ [])
+    (p : Packed) (l : ℕ) → (eqb p.h 1 && eqb p.l 1) ≡ true → leave p l ≡ pop_code (low l) l 0 ++ (0xEF ∷ 0x05 ∷ 0xFF ∷ [])
 leave-load p l h = rw h refl
 
 pub leave-return :
-    (p : Packed) (l : ℕ) → (eqb p.h 1 && eqb p.l 1) ≡ false → p.ret ≡ 0 → leave p l ≡ popCode (low l) l p.l ++ (0xFF ∷ [])
+    (p : Packed) (l : ℕ) → (eqb p.h 1 && eqb p.l 1) ≡ false → p.ret ≡ 0 → leave p l ≡ pop_code (low l) l p.l ++ (0xFF ∷ [])
 leave-return p l h r = rw (h, eq-eqb p.ret 0 r) refl
 
 pub leave-jump :
     (p : Packed) (l : ℕ) → (eqb p.h 1 && eqb p.l 1) ≡ false → (p.ret ≡ 0 → ⊥)
-    → leave p l ≡ popCode (low l && eqb p.l 0) l p.l ++ when (eqb p.h 1) (0x04 ∷ []) ++ ((0xFC + p.ret) ∷ [])
+    → leave p l ≡ pop_code (low l && eqb p.l 0) l p.l ++ when (eqb p.h 1) (0x04 ∷ []) ++ ((0xFC + p.ret) ∷ [])
 leave-jump p l h r = rw (h, ne_eqb p.ret 0 r) refl
 
 -- no epilogue for Ret=3
-pub second_none : (p : Packed) → p.ret ≡ 3 → secondList p ≡ []
-unfolding secondList
+pub second_none : (p : Packed) → p.ret ≡ 3 → second_list p ≡ []
+unfolding second_list
 second_none p h = rw (eq-eqb p.ret 3 h) refl
 
 pub second-some :
     (p : Packed) → (p.ret ≡ 3 → ⊥)
-    → secondList p ≡ when (not (EF p)) (upCode (amount p)) ++ vpopCode p ++ leave p (integers p (EF p))
-unfolding secondList
+    → second_list p ≡ when (not (EF p)) (up_code (amount p)) ++ vpop_code p ++ leave p (integers p (EF p))
+unfolding second_list
 second-some p h = rw (ne_eqb p.ret 3 h) refl
 
 -- the X of a list r4-rX, among the numbers from x up to another
@@ -87,10 +87,10 @@ module _ (l x e : ℕ) where
   top-none h = let n : e - x ≡ 0 = omega arith in rw n refl
 
 -- the D form by the X that was found
-pub d-register : (t : Option ℕ) (x f b : ℕ) (other : List ℕ) → top_of t ≡ Register x → dForm t f b other ≡ (f + x % 4 + 4 * b) ∷ []
+pub d-register : (t : Option ℕ) (x f b : ℕ) (other : List ℕ) → top_of t ≡ Register x → d_form t f b other ≡ (f + x % 4 + 4 * b) ∷ []
 d-register none x f b other h = absurd (let z : ◌≡◌ {A = ℕ} 0 1 = cc in omega arith)
 d-register (some y) x f b other h = let e : y ≡ x = cc in rw e refl
 
-pub d-other : (t : Option ℕ) (f b : ℕ) (other : List ℕ) → top_of t ≡ Other → dForm t f b other ≡ other
+pub d-other : (t : Option ℕ) (f b : ℕ) (other : List ℕ) → top_of t ≡ Other → d_form t f b other ≡ other
 d-other none f b other h = refl
 d-other (some y) f b other h = absurd (let z : ◌≡◌ {A = ℕ} 0 1 = cc in omega arith)

@@ -1,4 +1,4 @@
 pub mod PackedCodes
 pub mod Lists
 pub mod Chain
-pub mod as_coded
+pub mod AsCoded

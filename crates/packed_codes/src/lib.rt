@@ -2,10 +2,10 @@
 // nor the stack.
 ghost use Rattle.std.specs.Prelude.{◌≡◌, ◌∷◌, ◌++◌, [], true, false, ◌&&◌, not, ◌+◌, ◌≤◌, ◌<◌, eqb};
 ghost use Rattle.words.specs.Bits.{bits as bits_of};
-ghost use Rattle.codes.specs.Table.{lrIf};
-ghost use Rattle.packed.specs.Packed.{Fit, fields as fields_of, amount as amountOf};
-ghost use Rattle.packed_codes.specs.PackedCodes.{when, upCode, vpopCode, up_to, popSized, popCode, low, chainCode, firstList, leave as leaveOf, secondList, written, writeCodes, codesAnswer};
-ghost use Rattle.packed_codes.specs.as_coded.Out.{puts, top_of};
+ghost use Rattle.codes.specs.Table.{lr_if};
+ghost use Rattle.packed.specs.Packed.{Fit, fields as fields_of, amount as amount_of};
+ghost use Rattle.packed_codes.specs.PackedCodes.{when, up_code, vpop_code, up_to, pop_sized, pop_code, low, chain_code as spec_chain_code, first_list as spec_first_list, leave as leave_of, second_list as spec_second_list, written, write_codes as spec_write_codes, codes_answer};
+ghost use Rattle.packed_codes.specs.AsCoded.Out.{puts, top_of};
 
 use codes::list::from_r4;
 use packed::{Packed, allowed, amount, ef, fields, pf, registers};
@@ -54,7 +54,7 @@ fn put_if(out: &mut [u8; 16], at: usize, bit: u32, b: u8) -> usize
 // The code of an amount, if it is not 0 (RULES 4.13).
 fn up(out: &mut [u8; 16], at: usize, amount: StackWords) -> usize
     requires { amount.0 < 1024 }
-    ensures { (out.new, result) ≡ puts (out.old, at) (upCode amount) }
+    ensures { (out.new, result) ≡ puts (out.old, at) (up_code amount) }
 {
     let n = amount.0;
     if n == 0 {
@@ -70,7 +70,7 @@ fn up(out: &mut [u8; 16], at: usize, amount: StackWords) -> usize
 // The code of the amount unless it is folded.
 fn adjust(out: &mut [u8; 16], at: usize, p: Packed, fold: bool) -> usize
     requires { Fit p }
-    ensures { (out.new, result) ≡ puts (out.old, at) (when (not fold) (upCode (amountOf p))) }
+    ensures { (out.new, result) ≡ puts (out.old, at) (when (not fold) (up_code (amount_of p))) }
 {
     if fold {
         return at;
@@ -81,7 +81,7 @@ fn adjust(out: &mut [u8; 16], at: usize, p: Packed, fold: bool) -> usize
 // The code of the d list, if there is one (RULES 4.4).
 fn vpop(out: &mut [u8; 16], at: usize, p: Packed) -> usize
     requires { Fit p }
-    ensures { (out.new, result) ≡ puts (out.old, at) (vpopCode p) }
+    ensures { (out.new, result) ≡ puts (out.old, at) (vpop_code p) }
 {
     if p.r != 1 {
         return at;
@@ -108,7 +108,7 @@ fn top_from(list: u32, first: u32) -> Top
 // The code of a pop of 16 bits, by LR's bit and the others of the list: D0-D7 for r4-rX, else EC-ED.
 fn pop16(out: &mut [u8; 16], at: usize, others: u32, lr: u32) -> usize
     requires { (others < 256) × (lr < 2) }
-    ensures { (out.new, result) ≡ puts (out.old, at) (popSized true others lr) }
+    ensures { (out.new, result) ≡ puts (out.old, at) (pop_sized true others lr) }
 {
     match top_from(others, 4) {
         Top::Register(x) => put(out, at, (0xD0 + x % 4 + 4 * lr) as u8),
@@ -122,7 +122,7 @@ fn pop16(out: &mut [u8; 16], at: usize, others: u32, lr: u32) -> usize
 // The code of a pop of 32 bits, by LR's bit and the others of the list: D8-DF for r4-rX, else 80-BF.
 fn pop32(out: &mut [u8; 16], at: usize, others: u32, lr: u32) -> usize
     requires { (others < 8192) × (lr < 2) }
-    ensures { (out.new, result) ≡ puts (out.old, at) (popSized false others lr) }
+    ensures { (out.new, result) ≡ puts (out.old, at) (pop_sized false others lr) }
 {
     match top_from(others, 8) {
         Top::Register(x) => put(out, at, (0xD8 + x % 4 + 4 * lr) as u8),
@@ -135,8 +135,8 @@ fn pop32(out: &mut [u8; 16], at: usize, others: u32, lr: u32) -> usize
 
 // The code of a pop, if the list is not empty. It has 16 bits if it may (`narrow`) and none of r8-r12 is listed (RULES 4.12).
 fn pop(out: &mut [u8; 16], at: usize, list: u32, narrow: bool) -> usize
-    requires { list ≡ bits_of 0 13 list + lrIf (bits_of 14 1 list) }
-    ensures { (out.new, result) ≡ puts (out.old, at) (popCode (narrow && low (bits_of 0 13 list)) (bits_of 0 13 list) (bits_of 14 1 list)) }
+    requires { list ≡ bits_of 0 13 list + lr_if (bits_of 14 1 list) }
+    ensures { (out.new, result) ≡ puts (out.old, at) (pop_code (narrow && low (bits_of 0 13 list)) (bits_of 0 13 list) (bits_of 14 1 list)) }
 {
     if list == 0 {
         return at;
@@ -149,7 +149,7 @@ fn pop(out: &mut [u8; 16], at: usize, list: u32, narrow: bool) -> usize
 
 // The nop of what sets r11, by the list that is pushed: of 16 bits for r11 and LR and nothing else (RULES 4.6).
 fn chain_code(list: u32) -> u8
-    ensures { result ≡ chainCode list }
+    ensures { result ≡ spec_chain_code list }
 {
     if list == 0x4800 {
         return 0xFB;
@@ -159,7 +159,7 @@ fn chain_code(list: u32) -> u8
 
 // The first list: the prologue's codes in reverse, and FF (RULES 4.16).
 fn first_list(out: &mut [u8; 16], at: usize, word: u32) -> usize
-    ensures { (out.new, result) ≡ puts (out.old, at) (firstList (fields_of word)) }
+    ensures { (out.new, result) ≡ puts (out.old, at) (spec_first_list (fields_of word)) }
 {
     let p = fields(word);
     let fold = pf(p);
@@ -174,7 +174,7 @@ fn first_list(out: &mut [u8; 16], at: usize, word: u32) -> usize
 
 // The pop, which LR leaves, and the return by a load (RULES 4.8).
 fn leave_loading(out: &mut [u8; 16], at: usize, list: u32) -> usize
-    ensures { (out.new, result) ≡ puts (out.old, at) (popCode (low (bits_of 0 13 list)) (bits_of 0 13 list) 0 ++ (0xEF ∷ 0x05 ∷ 0xFF ∷ [])) }
+    ensures { (out.new, result) ≡ puts (out.old, at) (pop_code (low (bits_of 0 13 list)) (bits_of 0 13 list) 0 ++ (0xEF ∷ 0x05 ∷ 0xFF ∷ [])) }
 {
     let at = pop(out, at, bits(list, 0, 13), true);
     let at = put(out, at, 0xEF);
@@ -184,8 +184,8 @@ fn leave_loading(out: &mut [u8; 16], at: usize, list: u32) -> usize
 
 // The pop, which has 32 bits with LR in it (RULES 4.12), and the return by a branch (RULES 4.10).
 fn leave_jumping(out: &mut [u8; 16], at: usize, p: Packed, list: u32) -> usize
-    requires { Fit p × (list ≡ bits_of 0 13 list + lrIf p.l) }
-    ensures { (out.new, result) ≡ puts (out.old, at) (popCode (low (bits_of 0 13 list) && eqb p.l 0) (bits_of 0 13 list) p.l ++ when (eqb p.h 1) (0x04 ∷ []) ++ ((0xFC + p.ret) ∷ [])) }
+    requires { Fit p × (list ≡ bits_of 0 13 list + lr_if p.l) }
+    ensures { (out.new, result) ≡ puts (out.old, at) (pop_code (low (bits_of 0 13 list) && eqb p.l 0) (bits_of 0 13 list) p.l ++ when (eqb p.h 1) (0x04 ∷ []) ++ ((0xFC + p.ret) ∷ [])) }
 {
     let at = pop(out, at, list, p.l == 0);
     let at = put_if(out, at, p.h, 0x04);
@@ -194,8 +194,8 @@ fn leave_jumping(out: &mut [u8; 16], at: usize, p: Packed, list: u32) -> usize
 
 // The pop and the return at the end of an epilogue.
 fn leave(out: &mut [u8; 16], at: usize, p: Packed, list: u32) -> usize
-    requires { Fit p × (list ≡ bits_of 0 13 list + lrIf p.l) }
-    ensures { (out.new, result) ≡ puts (out.old, at) (leaveOf p (bits_of 0 13 list)) }
+    requires { Fit p × (list ≡ bits_of 0 13 list + lr_if p.l) }
+    ensures { (out.new, result) ≡ puts (out.old, at) (leave_of p (bits_of 0 13 list)) }
 {
     if p.h == 1 && p.l == 1 {
         return leave_loading(out, at, list);
@@ -209,7 +209,7 @@ fn leave(out: &mut [u8; 16], at: usize, p: Packed, list: u32) -> usize
 
 // The epilogue's codes, unless Ret=3.
 fn second_list(out: &mut [u8; 16], at: usize, word: u32) -> usize
-    ensures { (out.new, result) ≡ puts (out.old, at) (secondList (fields_of word)) }
+    ensures { (out.new, result) ≡ puts (out.old, at) (spec_second_list (fields_of word)) }
 {
     let p = fields(word);
     if p.ret == 3 {
@@ -239,7 +239,7 @@ fn both_lists(word: u32) -> CodesOf
 
 // The code bytes of a packed word, and how long its two lists are (RULES 4.19).
 pub fn write_codes(word: u32) -> CodesOf
-    ensures { result ≡ codesAnswer (writeCodes word) }
+    ensures { result ≡ codes_answer (spec_write_codes word) }
 {
     if allowed(fields(word)) {
         return both_lists(word);

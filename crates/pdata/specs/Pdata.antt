@@ -17,39 +17,39 @@ abbrev pub entry_at : List ℕ → ℕ → Entry
 entry_at s i = record { number = i; start = even (word32 s (8 * i)); word = word32 s (8 * i + 4) }
 
 -- n records, the first of which has this number
-unfoldable pub entriesFrom : List ℕ → (number n : ℕ) → List Entry
-entriesFrom s i zero = []
-entriesFrom s i (suc n) =
-    entry_at s i ∷ entriesFrom s (i + 1) n
+unfoldable pub entries_from : List ℕ → (number n : ℕ) → List Entry
+entries_from s i zero = []
+entries_from s i (suc n) =
+    entry_at s i ∷ entries_from s (i + 1) n
 
 abbrev pub entries : List ℕ → List Entry
-entries s = entriesFrom s 0 (length s / 8)
+entries s = entries_from s 0 (length s / 8)
 
 abbrev pub starts : List ℕ → List ℕ
 starts s = map (λ e. e.start) (entries s)
 
 -- the last record that starts at or before an RVA: in an ascending table, of those the one with the greatest start (RULES 2.4)
-unfoldable pub lastUpTo : List Entry → (rva : ℕ) → Option Entry
-lastUpTo [] a = none
-lastUpTo (e ∷ es) a = maybe (lastUpTo es a) (if leb e.start a then some e else none) some
+unfoldable pub last_up_to : List Entry → (rva : ℕ) → Option Entry
+last_up_to [] a = none
+last_up_to (e ∷ es) a = maybe (last_up_to es a) (if leb e.start a then some e else none) some
 
 -- what finding asks of the table alone, and so once for a walk: 1 for its length and 3
 abbrev pub checked : List ℕ → Checked
 checked s = record { fit = eqb (length s % 8) 0; sorted = ascending (starts s) }
 
 -- finding by an RVA: 1 for the length, 3, and then the record or none
-unfoldable pub findRva : (pdata : List ℕ) → (rva : ℕ) → Res (Option Entry)
-findRva s a = do
+unfoldable pub find_rva : (pdata : List ℕ) → (rva : ℕ) → Res (Option Entry)
+find_rva s a = do
   need (eqb (length s % 8) 0) UnfitInput
   need (ascending (starts s)) StartsNotAscending
-  ok (lastUpTo (entries s) a)
+  ok (last_up_to (entries s) a)
 
 -- finding the record for a pc: 1 for the length, 2, and then by its RVA
 unfoldable pub find : (image : ℕ) → (pdata : List ℕ) → (pc : ℕ) → Res (Option Entry)
 find image s pc = do
   need (checked s).fit UnfitInput
   need (leb image (even pc)) PcBelowBase
-  findRva s (even pc - image)
+  find_rva s (even pc - image)
 
 abbrev pub found : Res (Option Entry) → Found
 found r = either r Refused (λ e. maybe e Nothing Record)

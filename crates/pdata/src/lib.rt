@@ -1,8 +1,8 @@
 // The .pdata: its records, its order, and the record of a pc.
 ghost use Rattle.std.specs.Prelude.{◌≡◌, true, ◌/◌, ◌<◌, length};
 ghost use Rattle.words.specs.Answer.{ok, refuse};
-ghost use Rattle.unwinding.specs.View.{ascending as ascendingOf};
-ghost use Rattle.pdata.specs.Pdata.{entries, entry_at, starts, lastUpTo, find as findOf, findRva, found, checked as checkedOf};
+ghost use Rattle.unwinding.specs.View.{ascending as ascending_of};
+ghost use Rattle.pdata.specs.Pdata.{entries, entry_at, starts, last_up_to, find as find_of, find_rva as spec_find_rva, found, checked as checked_of};
 
 use words::Refusal;
 
@@ -54,7 +54,7 @@ fn entry_in(pdata: &[u8], i: usize) -> Entry
 // Whether each start in the table is greater than the one before (RULES 2.3). A word's start is at or below another's exactly if the word
 // is at or below the other with bit 0 set, so the words are compared as they stand.
 pub fn ascending(pdata: &[u8]) -> bool
-    ensures { result ≡ ascendingOf (starts pdata.now) }
+    ensures { result ≡ ascending_of (starts pdata.now) }
 {
     let n = records(pdata);
     let mut i = 0;
@@ -72,7 +72,7 @@ pub fn ascending(pdata: &[u8]) -> bool
 
 // The last record that starts at or below an RVA, by halving, in a table that ascends; words are compared as in `ascending`.
 fn search(pdata: &[u8], rva: u32) -> Found
-    ensures { ascendingOf (starts pdata.now) ≡ true → result ≡ found (ok (lastUpTo (entries pdata.now) rva)) }
+    ensures { ascending_of (starts pdata.now) ≡ true → result ≡ found (ok (last_up_to (entries pdata.now) rva)) }
 {
     let top = words::even(rva) + 1;
     let mut low = 0;
@@ -93,7 +93,7 @@ fn search(pdata: &[u8], rva: u32) -> Found
 
 // What finding asks of the table alone: a walk asks it once.
 pub fn check(pdata: &[u8]) -> Checked
-    ensures { result ≡ checkedOf pdata.now }
+    ensures { result ≡ checked_of pdata.now }
 {
     Checked {
         fit: pdata.len() % 8 == 0,
@@ -110,7 +110,7 @@ fn refused(why: Refusal) -> Found
 
 // Finding in a table that was checked, as a walk does for each frame: the tests of RULES 9.55 in order, and then the record or none.
 pub fn find_in(checked: Checked, image: u32, pdata: &[u8], pc: u32) -> Found
-    ensures { checked ≡ checkedOf pdata.now → result ≡ found (findOf image pdata.now pc) }
+    ensures { checked ≡ checked_of pdata.now → result ≡ found (find_of image pdata.now pc) }
 {
     if !checked.fit {
         return refused(Refusal::UnfitInput);
@@ -127,7 +127,7 @@ pub fn find_in(checked: Checked, image: u32, pdata: &[u8], pc: u32) -> Found
 
 // Finding by an RVA: 1 for the length, 3, and then the last record that starts at or below it, or none.
 pub fn find_rva(pdata: &[u8], rva: u32) -> Found
-    ensures { result ≡ found (findRva pdata.now rva) }
+    ensures { result ≡ found (spec_find_rva pdata.now rva) }
 {
     let c = check(pdata);
     if !c.fit {
@@ -141,7 +141,7 @@ pub fn find_rva(pdata: &[u8], rva: u32) -> Found
 
 // Finding by a pc (RULES 2.5).
 pub fn find(image: u32, pdata: &[u8], pc: u32) -> Found
-    ensures { result ≡ found (findOf image pdata.now pc) }
+    ensures { result ≡ found (find_of image pdata.now pc) }
 {
     find_in(check(pdata), image, pdata, pc)
 }

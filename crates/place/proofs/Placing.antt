@@ -10,7 +10,7 @@ use lib.ListN.{length, get_elem?}
 use native.Mathlib.Omega.{arith}
 use borrow.Author.Tests.{ltb-true, leb-true, lt-leb, le-ltb}
 use Rattle.words.proofs.Tests.{both}
-use Rattle.words.specs.Units.{codeBytes}
+use Rattle.words.specs.Units.{code_bytes}
 use Rattle.words.specs.declared.CodeBytes.{CodeBytes}
 use Rattle.words.specs.declared.Place.{Place}
 use Rattle.words.specs.declared.Place.TheVariants.{Prologue, Body, Epilogue}
@@ -21,46 +21,46 @@ use Rattle.words.specs.Answer.{Res, ok, refuse, ◌>>=◌, ◌>>◌, need, eithe
 use Rattle.unwinding.specs.CodeList.{Codes, total}
 use Rattle.unwinding.specs.Shape.{Shape, start_of}
 use Rattle.unwinding.specs.View.{EpilogueOf, View, stretch, fits, epilogues, view}
-use Rattle.unwinding.specs.Todo.{Todo, left, inEpilogue, inEpilogues, todo}
+use Rattle.unwinding.specs.Todo.{Todo, left, in_epilogue, in_epilogues, todo}
 use Rattle.unwinding.specs.declared.Scope.{Scope}
-use Rattle.unwinding.specs.as_coded.Lined.{lined, next, reachOf}
+use Rattle.unwinding.specs.AsCoded.Lined.{lined, next, reach_of}
 use Rattle.unwinding.proofs.Lined.{fits-lined}
 use Rattle.codes.specs.declared.Code.{Code}
 use Rattle.reader.specs.declared.Skipped.{Skipped}
 use Rattle.reader.specs.declared.Skipped.TheVariants.{At, Nowhere}
-use Rattle.codes.specs.Code.{size, scan, codesAt}
+use Rattle.codes.specs.Code.{size, scan, codes_at}
 use Rattle.codes.specs.Condition.{executing}
-use Rattle.reader.specs.as_coded.Skip.{skipAt}
-use Rattle.reader.proofs.SkipEnds.{codesBehind, skip-ends, skip-ending}
-use Rattle.place.specs.as_coded.Look.{epilogueSpan, stretchOf, hits, see, unseen, lookFrom, spot, noSpot, bySkip, skipped, ifAlways, inEpilogue as in_span, inHere, inSeen, judged, prologueOf, passed_by, passed, spotBy, spot_of}
+use Rattle.reader.specs.AsCoded.Skip.{skip_at}
+use Rattle.reader.proofs.SkipEnds.{codes_behind, skip-ends, skip-ending}
+use Rattle.place.specs.AsCoded.Look.{epilogue_span, stretch_of, hits, see, unseen, look_from, spot, no_spot, by_skip, skipped, if_always, in_epilogue as in_span, in_here, in_seen, judged, prologue_of, passed_by, passed, spot_by, spot_of}
 use Rattle.place.specs.declared.EpilogueSpan.{EpilogueSpan}
 use Rattle.place.specs.declared.Seen.{Seen}
 use Rattle.place.specs.declared.Looked.TheVariants.{All, Bad}
 use Rattle.place.specs.declared.Spot.{Spot}
 
 -- what a spot says is left to undo
-abbrev pub todoBy : (codes : List ℕ) → Place → CodeBytes → Verdict → Res (Todo Code)
-todoBy s p i Given = ok (record { place = p; codes = (scan s i).list })
-todoBy s p i (Refused r) = refuse r
+abbrev pub todo_by : (codes : List ℕ) → Place → CodeBytes → Verdict → Res (Todo Code)
+todo_by s p i Given = ok (record { place = p; codes = (scan s i).list })
+todo_by s p i (Refused r) = refuse r
 
-abbrev pub todoOf : (codes : List ℕ) → Spot → Res (Todo Code)
-todoOf s p = todoBy s p.place p.index p.verdict
+abbrev pub todo_of : (codes : List ℕ) → Spot → Res (Todo Code)
+todo_of s p = todo_by s p.place p.index p.verdict
 
 -- the epilogues as their codes make them, or 6
 spans : (codes : List ℕ) → (span : ℕ) → List Scope → Res (List EpilogueSpan)
 spans s span [] = ok []
-spans s span (e ∷ es) = codesAt s e.index >>= λ c. spans s span es >>= λ rest. ok (epilogueSpan span e c ∷ rest)
+spans s span (e ∷ es) = codes_at s e.index >>= λ c. spans s span es >>= λ rest. ok (epilogue_span span e c ∷ rest)
 
-abbrev endSize : (codes : List ℕ) → CodeBytes → ℕ
-endSize s i = or_else (scan s i).ending 0
+abbrev end_size : (codes : List ℕ) → CodeBytes → ℕ
+end_size s i = or_else (scan s i).ending 0
 
-abbrev spanEpilogue : (codes : List ℕ) → EpilogueSpan → EpilogueOf Code
-spanEpilogue s w =
-    record { start = w.start; size = w.size; condition = w.condition; codes = record { list = (scan s w.index).list; endSize = endSize s w.index } }
+abbrev span_epilogue : (codes : List ℕ) → EpilogueSpan → EpilogueOf Code
+span_epilogue s w =
+    record { start = w.start; size = w.size; condition = w.condition; codes = record { list = (scan s w.index).list; end_size = end_size s w.index } }
 
 -- ---- the epilogues of a shape
 module _ (sh : Shape) where
-  epilogues-spans : (es : List Scope) → epilogues size codesAt sh es ≡ (spans sh.codes sh.span es >>= λ ws. ok (map (spanEpilogue sh.codes) ws))
+  epilogues-spans : (es : List Scope) → epilogues size codes_at sh es ≡ (spans sh.codes sh.span es >>= λ ws. ok (map (span_epilogue sh.codes) ws))
   unfolding epilogues spans
   epilogues-spans [] = refl
   epilogues-spans (e ∷ es) = go (scan sh.codes e.index).ending refl (epilogues-spans es)
@@ -69,47 +69,47 @@ module _ (sh : Shape) where
       s = sh.codes
 
       go :
-          (x : Res ℕ) → (scan s e.index).ending ≡ x → epilogues size codesAt sh es ≡ (spans s sh.span es >>= λ ws. ok (map (spanEpilogue s) ws))
-          → ((x >>= λ n. ok (record { list = (scan s e.index).list; endSize = n })) >>= λ c. epilogues size codesAt sh es >>= λ rest. ok (record { start = start_of e.start sh.span (total size c.list + c.endSize); size = total size c.list + c.endSize; condition = e.condition; codes = c } ∷ rest))
-          ≡ (((x >>= λ n. ok (record { list = (scan s e.index).list; endSize = n })) >>= λ c. spans s sh.span es >>= λ rest. ok (epilogueSpan sh.span e c ∷ rest)) >>= λ ws. ok (map (spanEpilogue s) ws))
+          (x : Res ℕ) → (scan s e.index).ending ≡ x → epilogues size codes_at sh es ≡ (spans s sh.span es >>= λ ws. ok (map (span_epilogue s) ws))
+          → ((x >>= λ n. ok (record { list = (scan s e.index).list; end_size = n })) >>= λ c. epilogues size codes_at sh es >>= λ rest. ok (record { start = start_of e.start sh.span (total size c.list + c.end_size); size = total size c.list + c.end_size; condition = e.condition; codes = c } ∷ rest))
+          ≡ (((x >>= λ n. ok (record { list = (scan s e.index).list; end_size = n })) >>= λ c. spans s sh.span es >>= λ rest. ok (epilogue_span sh.span e c ∷ rest)) >>= λ ws. ok (map (span_epilogue s) ws))
       go (refuse r) q ih = refl
       go (ok n) q ih = rw ih (rest (spans s sh.span es))
         where
-          same : endSize s e.index ≡ n
+          same : end_size s e.index ≡ n
           same = ap (λ y. or_else y 0) q
 
           rest :
               (y : Res (List EpilogueSpan))
-              → ((y >>= λ ws. ok (map (spanEpilogue s) ws)) >>= λ rest. ok (record { start = start_of e.start sh.span (total size (scan s e.index).list + n); size = total size (scan s e.index).list + n; condition = e.condition; codes = record { list = (scan s e.index).list; endSize = n } } ∷ rest))
-              ≡ ((y >>= λ rest. ok (epilogueSpan sh.span e (record { list = (scan s e.index).list; endSize = n }) ∷ rest)) >>= λ ws. ok (map (spanEpilogue s) ws))
+              → ((y >>= λ ws. ok (map (span_epilogue s) ws)) >>= λ rest. ok (record { start = start_of e.start sh.span (total size (scan s e.index).list + n); size = total size (scan s e.index).list + n; condition = e.condition; codes = record { list = (scan s e.index).list; end_size = n } } ∷ rest))
+              ≡ ((y >>= λ rest. ok (epilogue_span sh.span e (record { list = (scan s e.index).list; end_size = n }) ∷ rest)) >>= λ ws. ok (map (span_epilogue s) ws))
           rest (refuse r) = refl
           rest (ok ws) =
-              ap (λ m. ok (record { start = start_of e.start sh.span (total size (scan s e.index).list + n); size = total size (scan s e.index).list + n; condition = e.condition; codes = record { list = (scan s e.index).list; endSize = m } } ∷ map (spanEpilogue s) ws)) (sym same)
+              ap (λ m. ok (record { start = start_of e.start sh.span (total size (scan s e.index).list + n); size = total size (scan s e.index).list + n; condition = e.condition; codes = record { list = (scan s e.index).list; end_size = m } } ∷ map (span_epilogue s) ws)) (sym same)
 
 -- ---- what is seen of them
-seenAll : (span offset number : ℕ) → Seen → List EpilogueSpan → Seen
-seenAll span o k seen [] = seen
-seenAll span o k seen (w ∷ ws) = seenAll span o (k + 1) (see span o k seen w) ws
+seen_all : (span offset number : ℕ) → Seen → List EpilogueSpan → Seen
+seen_all span o k seen [] = seen
+seen_all span o k seen (w ∷ ws) = seen_all span o (k + 1) (see span o k seen w) ws
 
 look-spans :
     (s : List ℕ) (span o k : ℕ) (seen : Seen) (es : List Scope)
-    → lookFrom s span o k seen es ≡ either (spans s span es) Bad (λ ws. All (seenAll span o k seen ws))
-unfolding lookFrom spans seenAll
+    → look_from s span o k seen es ≡ either (spans s span es) Bad (λ ws. All (seen_all span o k seen ws))
+unfolding look_from spans seen_all
 look-spans s span o k seen [] = refl
-look-spans s span o k seen (e ∷ es) = go (codesAt s e.index) (λ c. look-spans s span o (k + 1) (see span o k seen (epilogueSpan span e c)) es)
+look-spans s span o k seen (e ∷ es) = go (codes_at s e.index) (λ c. look-spans s span o (k + 1) (see span o k seen (epilogue_span span e c)) es)
   where
     go :
         (x : Res (Codes Code))
-        → ((c : Codes Code) → lookFrom s span o (k + 1) (see span o k seen (epilogueSpan span e c)) es ≡ either (spans s span es) Bad (λ ws. All (seenAll span o (k + 1) (see span o k seen (epilogueSpan span e c)) ws)))
-        → either x Bad (λ c. lookFrom s span o (k + 1) (see span o k seen (epilogueSpan span e c)) es)
-        ≡ either (x >>= λ c. spans s span es >>= λ rest. ok (epilogueSpan span e c ∷ rest)) Bad (λ ws. All (seenAll span o k seen ws))
+        → ((c : Codes Code) → look_from s span o (k + 1) (see span o k seen (epilogue_span span e c)) es ≡ either (spans s span es) Bad (λ ws. All (seen_all span o (k + 1) (see span o k seen (epilogue_span span e c)) ws)))
+        → either x Bad (λ c. look_from s span o (k + 1) (see span o k seen (epilogue_span span e c)) es)
+        ≡ either (x >>= λ c. spans s span es >>= λ rest. ok (epilogue_span span e c ∷ rest)) Bad (λ ws. All (seen_all span o k seen ws))
     go (refuse r) ih = refl
     go (ok c) ih = ih c ∙ rest (spans s span es)
       where
         rest :
             (y : Res (List EpilogueSpan))
-            → either y Bad (λ ws. All (seenAll span o (k + 1) (see span o k seen (epilogueSpan span e c)) ws))
-            ≡ either (y >>= λ rest. ok (epilogueSpan span e c ∷ rest)) Bad (λ ws. All (seenAll span o k seen ws))
+            → either y Bad (λ ws. All (seen_all span o (k + 1) (see span o k seen (epilogue_span span e c)) ws))
+            ≡ either (y >>= λ rest. ok (epilogue_span span e c ∷ rest)) Bad (λ ws. All (seen_all span o k seen ws))
         rest (refuse r) = refl
         rest (ok ws) = refl
 
@@ -120,8 +120,8 @@ and_assoc false b c = refl
 -- whether they stand in line
 seen-fits :
     (span o k : ℕ) (seen : Seen) (ws : List EpilogueSpan)
-    → (seenAll span o k seen ws).fits ≡ (seen.fits && lined span seen.floor seen.reach (map stretchOf ws))
-unfolding seenAll
+    → (seen_all span o k seen ws).fits ≡ (seen.fits && lined span seen.floor seen.reach (map stretch_of ws))
+unfolding seen_all
 seen-fits span o k seen [] = go seen.fits
   where
     go : (a : Bool) → a ≡ (a && true)
@@ -129,51 +129,51 @@ seen-fits span o k seen [] = go seen.fits
     go false = refl
 seen-fits span o k seen (w ∷ ws) =
     seen-fits span o (k + 1) (see span o k seen w) ws
-    ∙ and_assoc seen.fits (next span seen.floor seen.reach (stretchOf w))
-    (lined span (w.start + 1) (reachOf seen.reach (stretchOf w)) (map stretchOf ws))
+    ∙ and_assoc seen.fits (next span seen.floor seen.reach (stretch_of w))
+    (lined span (w.start + 1) (reach_of seen.reach (stretch_of w)) (map stretch_of ws))
 
-same-stretches : (s : List ℕ) (ws : List EpilogueSpan) → map stretch (map (spanEpilogue s) ws) ≡ map stretchOf ws
+same-stretches : (s : List ℕ) (ws : List EpilogueSpan) → map stretch (map (span_epilogue s) ws) ≡ map stretch_of ws
 same-stretches s [] = refl
-same-stretches s (w ∷ ws) = ap (λ l. stretchOf w ∷ l) (same-stretches s ws)
+same-stretches s (w ∷ ws) = ap (λ l. stretch_of w ∷ l) (same-stretches s ws)
 
 fits-seen :
-    (s : List ℕ) (span o p n : ℕ) (ws : List EpilogueSpan) → fits span p (map (spanEpilogue s) ws) ≡ (seenAll span o 0 (unseen span p n) ws).fits
+    (s : List ℕ) (span o p n : ℕ) (ws : List EpilogueSpan) → fits span p (map (span_epilogue s) ws) ≡ (seen_all span o 0 (unseen span p n) ws).fits
 fits-seen s span o p n ws =
-    fits-lined span p (map (spanEpilogue s) ws) ∙ ap (λ l. leb p span && lined span 0 p l) (same-stretches s ws) ∙ sym (seen-fits span o 0 (unseen span p n) ws)
+    fits-lined span p (map (span_epilogue s) ws) ∙ ap (λ l. leb p span && lined span 0 p l) (same-stretches s ws) ∙ sym (seen-fits span o 0 (unseen span p n) ws)
 
 -- 6 and 7 by the pass, whatever the offset
 module _ (sh : Shape) (o : ℕ) where
-  pub view-passed : judged (passed sh.codes sh.span sh.fragment sh.scopes o).looked ≡ verdict (view size codesAt sh)
+  pub view-passed : judged (passed sh.codes sh.span sh.fragment sh.scopes o).looked ≡ verdict (view size codes_at sh)
   unfolding view
-  view-passed = go (scan sh.codes (codeBytes 0)).ending
+  view-passed = go (scan sh.codes (code_bytes 0)).ending
     where
       first : ℕ → Codes Code
-      first n = record { list = (scan sh.codes (codeBytes 0)).list; endSize = n }
+      first n = record { list = (scan sh.codes (code_bytes 0)).list; end_size = n }
 
       last :
           (c : Codes Code) (es : List (EpilogueOf Code)) (b : Bool)
-          → (if b then Given else Refused BadLayout) ≡ verdict {A = View Code} (need b BadLayout >> ok (record { codes = c; prologue = prologueOf sh.fragment c; epilogues = es }))
+          → (if b then Given else Refused BadLayout) ≡ verdict {A = View Code} (need b BadLayout >> ok (record { codes = c; prologue = prologue_of sh.fragment c; epilogues = es }))
       last c es true = refl
       last c es false = refl
 
       all :
           (c : Codes Code) (y : Res (List EpilogueSpan))
-          → judged (either y Bad (λ ws. All (seenAll sh.span o 0 (unseen sh.span (prologueOf sh.fragment c) (length sh.scopes)) ws)))
-          ≡ verdict {A = View Code} ((y >>= λ ws. ok (map (spanEpilogue sh.codes) ws)) >>= λ es. need (fits sh.span (prologueOf sh.fragment c) es) BadLayout >> ok (record { codes = c; prologue = prologueOf sh.fragment c; epilogues = es }))
+          → judged (either y Bad (λ ws. All (seen_all sh.span o 0 (unseen sh.span (prologue_of sh.fragment c) (length sh.scopes)) ws)))
+          ≡ verdict {A = View Code} ((y >>= λ ws. ok (map (span_epilogue sh.codes) ws)) >>= λ es. need (fits sh.span (prologue_of sh.fragment c) es) BadLayout >> ok (record { codes = c; prologue = prologue_of sh.fragment c; epilogues = es }))
       all c (refuse r) = refl
       all c (ok ws) =
-          let p = prologueOf sh.fragment c in
+          let p = prologue_of sh.fragment c in
           rw (fits-seen sh.codes sh.span o p (length sh.scopes) ws)
-          (last c (map (spanEpilogue sh.codes) ws) (seenAll sh.span o 0 (unseen sh.span p (length sh.scopes)) ws).fits)
+          (last c (map (span_epilogue sh.codes) ws) (seen_all sh.span o 0 (unseen sh.span p (length sh.scopes)) ws).fits)
 
       go :
           (x : Res ℕ)
           → judged (passed_by sh.codes sh.span sh.fragment sh.scopes o (x >>= λ n. ok (first n))).looked
-          ≡ verdict {A = View Code} ((x >>= λ n. ok (first n)) >>= λ c. epilogues size codesAt sh sh.scopes >>= λ es. need (fits sh.span (prologueOf sh.fragment c) es) BadLayout >> ok (record { codes = c; prologue = prologueOf sh.fragment c; epilogues = es }))
+          ≡ verdict {A = View Code} ((x >>= λ n. ok (first n)) >>= λ c. epilogues size codes_at sh sh.scopes >>= λ es. need (fits sh.span (prologue_of sh.fragment c) es) BadLayout >> ok (record { codes = c; prologue = prologue_of sh.fragment c; epilogues = es }))
       go (refuse r) = refl
       go (ok n) =
           rw
-          (epilogues-spans sh sh.scopes, look-spans sh.codes sh.span o 0 (unseen sh.span (prologueOf sh.fragment (first n)) (length sh.scopes)) sh.scopes)
+          (epilogues-spans sh sh.scopes, look-spans sh.codes sh.span o 0 (unseen sh.span (prologue_of sh.fragment (first n)) (length sh.scopes)) sh.scopes)
           (all (first n) (spans sh.codes sh.span sh.scopes))
 
 -- the first that the offset falls into
@@ -181,26 +181,26 @@ hit : (offset : ℕ) → List EpilogueSpan → Option EpilogueSpan
 hit o [] = none
 hit o (w ∷ ws) = let later = hit o ws in if hits o w then some w else later
 
-abbrev todoHit : (codes : List ℕ) → (offset : ℕ) → (body : List Code) → Option EpilogueSpan → Res (Todo Code)
-todoHit s o cs none = ok (record { place = Body; codes = cs })
-todoHit s o cs (some w) = inEpilogue size executing (spanEpilogue s w) o
+abbrev todo_hit : (codes : List ℕ) → (offset : ℕ) → (body : List Code) → Option EpilogueSpan → Res (Todo Code)
+todo_hit s o cs none = ok (record { place = Body; codes = cs })
+todo_hit s o cs (some w) = in_epilogue size executing (span_epilogue s w) o
 
-epilogues-hit : (s : List ℕ) (o : ℕ) (cs : List Code) (ws : List EpilogueSpan) → inEpilogues size executing (map (spanEpilogue s) ws) o cs ≡ todoHit s o cs (hit o ws)
-unfolding inEpilogues hit
+epilogues-hit : (s : List ℕ) (o : ℕ) (cs : List Code) (ws : List EpilogueSpan) → in_epilogues size executing (map (span_epilogue s) ws) o cs ≡ todo_hit s o cs (hit o ws)
+unfolding in_epilogues hit
 epilogues-hit s o cs [] = refl
 epilogues-hit s o cs (w ∷ ws) = go (hits o w) (epilogues-hit s o cs ws)
   where
     go :
-        (x : Bool) → inEpilogues size executing (map (spanEpilogue s) ws) o cs ≡ todoHit s o cs (hit o ws)
-        → (if x then inEpilogue size executing (spanEpilogue s w) o else inEpilogues size executing (map (spanEpilogue s) ws) o cs) ≡ todoHit s o cs (if x then some w else hit o ws)
+        (x : Bool) → in_epilogues size executing (map (span_epilogue s) ws) o cs ≡ todo_hit s o cs (hit o ws)
+        → (if x then in_epilogue size executing (span_epilogue s w) o else in_epilogues size executing (map (span_epilogue s) ws) o cs) ≡ todo_hit s o cs (if x then some w else hit o ws)
     go true ih = refl
     go false ih = ih
 
 -- ---- where the epilogues stand in line, the offset falls into one at most, and the pass keeps its number
 module _ (span o : ℕ) where
   -- a number that no later epilogue is below
-  number-above : (j k : ℕ) (seen : Seen) (ws : List EpilogueSpan) → j ≤ k → j ≤ seen.at → j ≤ (seenAll span o k seen ws).at
-  unfolding seenAll
+  number-above : (j k : ℕ) (seen : Seen) (ws : List EpilogueSpan) → j ≤ k → j ≤ seen.at → j ≤ (seen_all span o k seen ws).at
+  unfolding seen_all
   number-above j k seen [] h n = n
   number-above j k seen (w ∷ ws) h n = number-above j (k + 1) (see span o k seen w) ws (omega arith) (go (hits o w))
     where
@@ -209,7 +209,7 @@ module _ (span o : ℕ) where
       go false = n
 
   -- one that stands behind what is reached is not hit by an offset before that
-  behind : (floor reach : ℕ) (w : EpilogueSpan) → next span floor reach (stretchOf w) ≡ true → o < reach → (hits o w ≡ false) × (o < reachOf reach (stretchOf w))
+  behind : (floor reach : ℕ) (w : EpilogueSpan) → next span floor reach (stretch_of w) ≡ true → o < reach → (hits o w ≡ false) × (o < reach_of reach (stretch_of w))
   behind floor reach w e l = go (leb (w.start + w.size) w.start) refl (both (leb floor w.start && leb (w.start + w.size) span) _ e).1
     where
       go :
@@ -225,104 +225,104 @@ module _ (span o : ℕ) where
           (rw (lt-leb w.start o (omega (arith, r, l))) refl, omega (arith, r, l))
 
   stays :
-      (k : ℕ) (seen : Seen) (ws : List EpilogueSpan) → lined span seen.floor seen.reach (map stretchOf ws) ≡ true → o < seen.reach
-      → (seenAll span o k seen ws).at ≡ seen.at
-  unfolding seenAll
+      (k : ℕ) (seen : Seen) (ws : List EpilogueSpan) → lined span seen.floor seen.reach (map stretch_of ws) ≡ true → o < seen.reach
+      → (seen_all span o k seen ws).at ≡ seen.at
+  unfolding seen_all
   stays k seen [] e l = refl
   stays k seen (w ∷ ws) e l =
-      let t = both (next span seen.floor seen.reach (stretchOf w)) _ e in
+      let t = both (next span seen.floor seen.reach (stretch_of w)) _ e in
       let b = behind seen.floor seen.reach w t.0 l in
       stays (k + 1) (see span o k seen w) ws t.1 b.1 ∙ ap (λ x. if x then k else seen.at) b.0
 
   seen-hit :
-      (k : ℕ) (seen : Seen) (ws : List EpilogueSpan) → lined span seen.floor seen.reach (map stretchOf ws) ≡ true → k + length ws ≤ seen.at
-      → get_elem? ws ((seenAll span o k seen ws).at - k) ≡ hit o ws
-  unfolding seenAll hit
+      (k : ℕ) (seen : Seen) (ws : List EpilogueSpan) → lined span seen.floor seen.reach (map stretch_of ws) ≡ true → k + length ws ≤ seen.at
+      → get_elem? ws ((seen_all span o k seen ws).at - k) ≡ hit o ws
+  unfolding seen_all hit
   seen-hit k seen [] e n = refl
-  seen-hit k seen (w ∷ ws) e n = go (hits o w) refl (seen-hit (k + 1) (see span o k seen w) ws (both (next span seen.floor seen.reach (stretchOf w)) _ e).1)
+  seen-hit k seen (w ∷ ws) e n = go (hits o w) refl (seen-hit (k + 1) (see span o k seen w) ws (both (next span seen.floor seen.reach (stretch_of w)) _ e).1)
     where
       rest : Seen
       rest = see span o k seen w
 
       go :
-          (x : Bool) → hits o w ≡ x → (k + 1 + length ws ≤ rest.at → get_elem? ws ((seenAll span o (k + 1) rest ws).at - (k + 1)) ≡ hit o ws)
-          → get_elem? (w ∷ ws) ((seenAll span o (k + 1) rest ws).at - k) ≡ (if x then some w else hit o ws)
+          (x : Bool) → hits o w ≡ x → (k + 1 + length ws ≤ rest.at → get_elem? ws ((seen_all span o (k + 1) rest ws).at - (k + 1)) ≡ hit o ws)
+          → get_elem? (w ∷ ws) ((seen_all span o (k + 1) rest ws).at - k) ≡ (if x then some w else hit o ws)
       go true q ih =
           let h = both (leb w.start o) (ltb o (w.start + w.size)) q in
           let l : o < w.start + w.size = ltb-true _ _ h.1 in
           let f : leb (w.start + w.size) w.start ≡ false = lt-leb (w.start + w.size) w.start (omega (arith, l, leb-true w.start o h.0)) in
-          let r : o < reachOf seen.reach (stretchOf w) = rw f l in
-          let a : (seenAll span o (k + 1) rest ws).at ≡ k = stays (k + 1) rest ws (both (next span seen.floor seen.reach (stretchOf w)) _ e).1 r ∙ ap (λ x. if x then k else seen.at) q in
-          let z : (seenAll span o (k + 1) rest ws).at - k ≡ 0 = omega (arith, a) in
+          let r : o < reach_of seen.reach (stretch_of w) = rw f l in
+          let a : (seen_all span o (k + 1) rest ws).at ≡ k = stays (k + 1) rest ws (both (next span seen.floor seen.reach (stretch_of w)) _ e).1 r ∙ ap (λ x. if x then k else seen.at) q in
+          let z : (seen_all span o (k + 1) rest ws).at - k ≡ 0 = omega (arith, a) in
           ap (get_elem? (w ∷ ws)) z
       go false q ih =
           let a : rest.at ≡ seen.at = ap (λ x. if x then k else seen.at) q in
-          let m : k + 1 ≤ (seenAll span o (k + 1) rest ws).at = number-above (k + 1) (k + 1) rest ws (omega arith) (omega (arith, a, n)) in
-          let z : (seenAll span o (k + 1) rest ws).at - k ≡ suc ((seenAll span o (k + 1) rest ws).at - (k + 1)) = omega (arith, m) in
+          let m : k + 1 ≤ (seen_all span o (k + 1) rest ws).at = number-above (k + 1) (k + 1) rest ws (omega arith) (omega (arith, a, n)) in
+          let z : (seen_all span o (k + 1) rest ws).at - k ≡ suc ((seen_all span o (k + 1) rest ws).at - (k + 1)) = omega (arith, m) in
           ap (get_elem? (w ∷ ws)) z ∙ ih (omega (arith, a, n))
 
 -- an epilogue has the number of its scope
-abbrev inHit : (codes : List ℕ) → (offset : ℕ) → Option EpilogueSpan → Spot
-inHit s o h = maybe h (spot Body (codeBytes 0)) (in_span s o)
+abbrev in_hit : (codes : List ℕ) → (offset : ℕ) → Option EpilogueSpan → Spot
+in_hit s o h = maybe h (spot Body (code_bytes 0)) (in_span s o)
 
 spans-length : (s : List ℕ) (span : ℕ) (es : List Scope) (ws : List EpilogueSpan) → spans s span es ≡ ok ws → length ws ≡ length es
 unfolding spans
 spans-length s span [] ws h = let e : [] ≡ ws = cc in ap length (sym e)
-spans-length s span (e ∷ es) ws h = go (codesAt s e.index) (spans s span es) refl h (λ rest q. spans-length s span es rest q)
+spans-length s span (e ∷ es) ws h = go (codes_at s e.index) (spans s span es) refl h (λ rest q. spans-length s span es rest q)
   where
     go :
         (x : Res (Codes Code)) (y : Res (List EpilogueSpan)) → spans s span es ≡ y
-        → (x >>= λ c. y >>= λ rest. ok (epilogueSpan span e c ∷ rest)) ≡ ok ws
+        → (x >>= λ c. y >>= λ rest. ok (epilogue_span span e c ∷ rest)) ≡ ok ws
         → ((rest : List EpilogueSpan) → spans s span es ≡ ok rest → length rest ≡ length es)
         → length ws ≡ suc (length es)
     go (refuse r) y v h ih = absurd (let z : ◌≡◌ {A = ℕ} 0 1 = cc in omega arith)
     go (ok c) (refuse r) v h ih = absurd (let z : ◌≡◌ {A = ℕ} 0 1 = cc in omega arith)
-    go (ok c) (ok rest) v h ih = let t : epilogueSpan span e c ∷ rest ≡ ws = cc in ap length (sym t) ∙ ap suc (ih rest v)
+    go (ok c) (ok rest) v h ih = let t : epilogue_span span e c ∷ rest ≡ ws = cc in ap length (sym t) ∙ ap suc (ih rest v)
 
 spans-number :
-    (s : List ℕ) (span o : ℕ) (es : List Scope) (ws : List EpilogueSpan) → spans s span es ≡ ok ws → (k : ℕ) → inHere s span es o k ≡ inHit s o (get_elem? ws k)
+    (s : List ℕ) (span o : ℕ) (es : List Scope) (ws : List EpilogueSpan) → spans s span es ≡ ok ws → (k : ℕ) → in_here s span es o k ≡ in_hit s o (get_elem? ws k)
 unfolding spans
-spans-number s span o [] ws h k = let e : [] ≡ ws = cc in ap (λ l. inHit s o (get_elem? l k)) e
+spans-number s span o [] ws h k = let e : [] ≡ ws = cc in ap (λ l. in_hit s o (get_elem? l k)) e
 spans-number s span o (e ∷ es) ws h k =
-    go (codesAt s e.index) refl (spans s span es) refl h k (λ rest q j. spans-number s span o es rest q j)
+    go (codes_at s e.index) refl (spans s span es) refl h k (λ rest q j. spans-number s span o es rest q j)
   where
     go :
-        (x : Res (Codes Code)) → codesAt s e.index ≡ x → (y : Res (List EpilogueSpan)) → spans s span es ≡ y
-        → (x >>= λ c. y >>= λ rest. ok (epilogueSpan span e c ∷ rest)) ≡ ok ws → (k : ℕ)
-        → ((rest : List EpilogueSpan) → spans s span es ≡ ok rest → (j : ℕ) → inHere s span es o j ≡ inHit s o (get_elem? rest j))
-        → inHere s span (e ∷ es) o k ≡ inHit s o (get_elem? ws k)
+        (x : Res (Codes Code)) → codes_at s e.index ≡ x → (y : Res (List EpilogueSpan)) → spans s span es ≡ y
+        → (x >>= λ c. y >>= λ rest. ok (epilogue_span span e c ∷ rest)) ≡ ok ws → (k : ℕ)
+        → ((rest : List EpilogueSpan) → spans s span es ≡ ok rest → (j : ℕ) → in_here s span es o j ≡ in_hit s o (get_elem? rest j))
+        → in_here s span (e ∷ es) o k ≡ in_hit s o (get_elem? ws k)
     go (refuse r) q y v h k ih = absurd (let z : ◌≡◌ {A = ℕ} 0 1 = cc in omega arith)
     go (ok c) q (refuse r) v h k ih = absurd (let z : ◌≡◌ {A = ℕ} 0 1 = cc in omega arith)
     go (ok c) q (ok rest) v h zero ih =
-        let t : epilogueSpan span e c ∷ rest ≡ ws = cc in
-        ap (λ x. either x noSpot (λ c. in_span s o (epilogueSpan span e c))) q ∙ ap (λ l. inHit s o (get_elem? l 0)) t
+        let t : epilogue_span span e c ∷ rest ≡ ws = cc in
+        ap (λ x. either x no_spot (λ c. in_span s o (epilogue_span span e c))) q ∙ ap (λ l. in_hit s o (get_elem? l 0)) t
     go (ok c) q (ok rest) v h (suc k) ih =
-        let t : epilogueSpan span e c ∷ rest ≡ ws = cc in
-        ih rest v k ∙ ap (λ l. inHit s o (get_elem? l (suc k))) t
+        let t : epilogue_span span e c ∷ rest ≡ ws = cc in
+        ih rest v k ∙ ap (λ l. in_hit s o (get_elem? l (suc k))) t
 
 -- so the pass ends in the first that the offset falls into
 module _ (s : List ℕ) (span o p : ℕ) (es : List Scope) (ws : List EpilogueSpan) (q : spans s span es ≡ ok ws) where
   abbrev final : Seen
-  final = seenAll span o 0 (unseen span p (length es)) ws
+  final = seen_all span o 0 (unseen span p (length es)) ws
 
-  passed_here : final.fits ≡ true → inHere s span es o final.at ≡ inHit s o (hit o ws)
+  passed_here : final.fits ≡ true → in_here s span es o final.at ≡ in_hit s o (hit o ws)
   passed_here e =
-      let l = both (leb p span) (lined span 0 p (map stretchOf ws)) (sym (seen-fits span o 0 (unseen span p (length es)) ws) ∙ e) in
+      let l = both (leb p span) (lined span 0 p (map stretch_of ws)) (sym (seen-fits span o 0 (unseen span p (length es)) ws) ∙ e) in
       let n : 0 + length ws ≤ length es = omega (arith, spans-length s span es ws q) in
       let z : final.at ≡ final.at - 0 = omega arith in
-      spans-number s span o es ws q final.at ∙ ap (λ k. inHit s o (get_elem? ws k)) z
-      ∙ ap (inHit s o) (seen-hit span o 0 (unseen span p (length es)) ws l.1 n)
+      spans-number s span o es ws q final.at ∙ ap (λ k. in_hit s o (get_elem? ws k)) z
+      ∙ ap (in_hit s o) (seen-hit span o 0 (unseen span p (length es)) ws l.1 n)
 
   passed-spot :
-      inSeen s span es p o (All final)
-      ≡ (if final.fits then (if ltb o p then skipped s Prologue (codeBytes 0) (p - o) else inHit s o (hit o ws)) else noSpot BadLayout)
+      in_seen s span es p o (All final)
+      ≡ (if final.fits then (if ltb o p then skipped s Prologue (code_bytes 0) (p - o) else in_hit s o (hit o ws)) else no_spot BadLayout)
   passed-spot = go final.fits refl
     where
       go :
           (b : Bool) → final.fits ≡ b
-          → (if b then (if ltb o p then skipped s Prologue (codeBytes 0) (p - o) else inHere s span es o final.at) else noSpot BadLayout)
-          ≡ (if b then (if ltb o p then skipped s Prologue (codeBytes 0) (p - o) else inHit s o (hit o ws)) else noSpot BadLayout)
-      go true e = ap (λ (h : Spot). if ltb o p then skipped s Prologue (codeBytes 0) (p - o) else h) (passed_here e)
+          → (if b then (if ltb o p then skipped s Prologue (code_bytes 0) (p - o) else in_here s span es o final.at) else no_spot BadLayout)
+          ≡ (if b then (if ltb o p then skipped s Prologue (code_bytes 0) (p - o) else in_hit s o (hit o ws)) else no_spot BadLayout)
+      go true e = ap (λ (h : Spot). if ltb o p then skipped s Prologue (code_bytes 0) (p - o) else h) (passed_here e)
       go false e = refl
 
 -- an epilogue whose codes are read has their size
@@ -342,13 +342,13 @@ spans-made s span (e ∷ es) ws h = go (scan s e.index).ending refl (spans s spa
   where
     go :
         (x : Res ℕ) → (scan s e.index).ending ≡ x → (y : Res (List EpilogueSpan)) → spans s span es ≡ y
-        → ((x >>= λ n. ok (record { list = (scan s e.index).list; endSize = n })) >>= λ c. y >>= λ rest. ok (epilogueSpan span e c ∷ rest)) ≡ ok ws
+        → ((x >>= λ n. ok (record { list = (scan s e.index).list; end_size = n })) >>= λ c. y >>= λ rest. ok (epilogue_span span e c ∷ rest)) ≡ ok ws
         → ((rest : List EpilogueSpan) → spans s span es ≡ ok rest → AllMade s rest)
         → AllMade s ws
     go (refuse r) q y v h ih = absurd (let z : ◌≡◌ {A = ℕ} 0 1 = cc in omega arith)
     go (ok n) q (refuse r) v h ih = absurd (let z : ◌≡◌ {A = ℕ} 0 1 = cc in omega arith)
     go (ok n) q (ok rest) v h ih =
-        let t : epilogueSpan span e (record { list = (scan s e.index).list; endSize = n }) ∷ rest ≡ ws = cc in
+        let t : epilogue_span span e (record { list = (scan s e.index).list; end_size = n }) ∷ rest ≡ ws = cc in
         subst (AllMade s) t (record { end = n; ends = q; whole = refl }, ih rest v)
 
 -- the one that the offset falls into is one of them, and it does
@@ -375,32 +375,32 @@ hit-inside s o (w ∷ ws) m = go (hits o w) refl (hit-inside s o ws m.1)
 -- ---- what is left to undo there
 left-skipped :
     (s : List ℕ) (p : Place) (i : CodeBytes) (after n k : ℕ) → k + n ≡ total size (scan s i).list + after
-    → left size p after n (scan s i).list ≡ todoOf s (bySkip p (skipAt s i k))
+    → left size p after n (scan s i).list ≡ todo_of s (by_skip p (skip_at s i k))
 unfolding left
-left-skipped s p i after n k h = rw (skip-ends s after n i k h) (go (skipAt s i k))
+left-skipped s p i after n k h = rw (skip-ends s after n i k h) (go (skip_at s i k))
   where
-    go : (x : Skipped) → maybe (codesBehind s x) (refuse InsideInstruction) (λ l. ok (record { place = p; codes = l })) ≡ todoOf s (bySkip p x)
+    go : (x : Skipped) → maybe (codes_behind s x) (refuse InsideInstruction) (λ l. ok (record { place = p; codes = l })) ≡ todo_of s (by_skip p x)
     go (At j) = refl
     go Nowhere = refl
 
 epilogue-skipped :
-    (s : List ℕ) (o : ℕ) (w : EpilogueSpan) → Inside s o w → inEpilogue size executing (spanEpilogue s w) o ≡ todoOf s (ifAlways (executing w.condition) (skipAt s w.index (o - w.start)))
-unfolding inEpilogue
+    (s : List ℕ) (o : ℕ) (w : EpilogueSpan) → Inside s o w → in_epilogue size executing (span_epilogue s w) o ≡ todo_of s (if_always (executing w.condition) (skip_at s w.index (o - w.start)))
+unfolding in_epilogue
 epilogue-skipped s o w h =
-    let e : endSize s w.index ≡ h.made.end = ap (λ y. or_else y 0) h.made.ends in
-    let k : o - w.start + (w.start + w.size - o) ≡ total size (scan s w.index).list + endSize s w.index =
+    let e : end_size s w.index ≡ h.made.end = ap (λ y. or_else y 0) h.made.ends in
+    let k : o - w.start + (w.start + w.size - o) ≡ total size (scan s w.index).list + end_size s w.index =
     omega (arith, h.low, h.high, h.made.whole, e)
     in
-    rw (left-skipped s Epilogue w.index (endSize s w.index) (w.start + w.size - o) (o - w.start) k) (go (skipAt s w.index (o - w.start)) (executing w.condition))
+    rw (left-skipped s Epilogue w.index (end_size s w.index) (w.start + w.size - o) (o - w.start) k) (go (skip_at s w.index (o - w.start)) (executing w.condition))
   where
-    go : (x : Skipped) (b : Bool) → (todoOf s (bySkip Epilogue x) >>= λ t. need b Conditional >> ok t) ≡ todoOf s (ifAlways b x)
+    go : (x : Skipped) (b : Bool) → (todo_of s (by_skip Epilogue x) >>= λ t. need b Conditional >> ok t) ≡ todo_of s (if_always b x)
     go (At i) true = refl
     go (At i) false = refl
     go Nowhere true = refl
     go Nowhere false = refl
 
 -- in the body or in an epilogue
-hit-todo : (s : List ℕ) (o : ℕ) (h : Option EpilogueSpan) → HitInside s o h → todoHit s o (scan s (codeBytes 0)).list h ≡ todoOf s (inHit s o h)
+hit-todo : (s : List ℕ) (o : ℕ) (h : Option EpilogueSpan) → HitInside s o h → todo_hit s o (scan s (code_bytes 0)).list h ≡ todo_of s (in_hit s o h)
 hit-todo s o none i = refl
 hit-todo s o (some w) i = epilogue-skipped s o w i
 
@@ -410,62 +410,62 @@ module _ (sh : Shape) (o : ℕ) where
   s = sh.codes
 
   abbrev first : ℕ → Codes Code
-  first n = record { list = (scan s (codeBytes 0)).list; endSize = n }
+  first n = record { list = (scan s (code_bytes 0)).list; end_size = n }
 
   -- the place, once 6 and 7 are passed
   todo-place :
-      (p : ℕ) (c : Codes Code) (ws : List EpilogueSpan) → c.list ≡ (scan s (codeBytes 0)).list → AllMade s ws → (o < p → p ≡ total size (scan s (codeBytes 0)).list)
-      → todo size executing (record { codes = c; prologue = p; epilogues = map (spanEpilogue s) ws }) o
-      ≡ todoOf s (if ltb o p then skipped s Prologue (codeBytes 0) (p - o) else inHit s o (hit o ws))
+      (p : ℕ) (c : Codes Code) (ws : List EpilogueSpan) → c.list ≡ (scan s (code_bytes 0)).list → AllMade s ws → (o < p → p ≡ total size (scan s (code_bytes 0)).list)
+      → todo size executing (record { codes = c; prologue = p; epilogues = map (span_epilogue s) ws }) o
+      ≡ todo_of s (if ltb o p then skipped s Prologue (code_bytes 0) (p - o) else in_hit s o (hit o ws))
   unfolding todo
   todo-place p c ws same made small = go (ltb o p) refl
     where
       go :
           (x : Bool) → ltb o p ≡ x
-          → (if x then left size Prologue 0 o c.list else inEpilogues size executing (map (spanEpilogue s) ws) o c.list)
-          ≡ todoOf s (if x then skipped s Prologue (codeBytes 0) (p - o) else inHit s o (hit o ws))
+          → (if x then left size Prologue 0 o c.list else in_epilogues size executing (map (span_epilogue s) ws) o c.list)
+          ≡ todo_of s (if x then skipped s Prologue (code_bytes 0) (p - o) else in_hit s o (hit o ws))
       go true e =
           let l : o < p = ltb-true o p e in
-          let t : p ≡ total size (scan s (codeBytes 0)).list = small l in
-          rw same (left-skipped s Prologue (codeBytes 0) 0 o (p - o) (omega arith))
-      go false e = rw same (epilogues-hit s o (scan s (codeBytes 0)).list ws ∙ hit-todo s o (hit o ws) (hit-inside s o ws made))
+          let t : p ≡ total size (scan s (code_bytes 0)).list = small l in
+          rw same (left-skipped s Prologue (code_bytes 0) 0 o (p - o) (omega arith))
+      go false e = rw same (epilogues-hit s o (scan s (code_bytes 0)).list ws ∙ hit-todo s o (hit o ws) (hit-inside s o ws made))
 
   -- a prologue that an offset is in is no fragment's
-  small-prologue : (f : Bool) (c : Codes Code) → c.list ≡ (scan s (codeBytes 0)).list → o < prologueOf f c → prologueOf f c ≡ total size (scan s (codeBytes 0)).list
+  small-prologue : (f : Bool) (c : Codes Code) → c.list ≡ (scan s (code_bytes 0)).list → o < prologue_of f c → prologue_of f c ≡ total size (scan s (code_bytes 0)).list
   small-prologue true c same l = absurd (let z : o < 0 = l in omega arith)
   small-prologue false c same l = ap (total size) same
 
-  pub spot-todo : (view size codesAt sh >>= λ v. todo size executing v o) ≡ todoOf s (spot_of s sh.span sh.fragment sh.scopes o)
+  pub spot-todo : (view size codes_at sh >>= λ v. todo size executing v o) ≡ todo_of s (spot_of s sh.span sh.fragment sh.scopes o)
   unfolding view spot_of
-  spot-todo = go (scan s (codeBytes 0)).ending
+  spot-todo = go (scan s (code_bytes 0)).ending
     where
       last :
           (n : ℕ) (ws : List EpilogueSpan) → AllMade s ws → (b : Bool)
-          → ((need b BadLayout >> ok (record { codes = first n; prologue = prologueOf sh.fragment (first n); epilogues = map (spanEpilogue s) ws })) >>= λ v. todo size executing v o)
-          ≡ todoOf s
-          (if b then (if ltb o (prologueOf sh.fragment (first n)) then skipped s Prologue (codeBytes 0) (prologueOf sh.fragment (first n) - o) else inHit s o (hit o ws)) else noSpot BadLayout)
-      last n ws made true = todo-place (prologueOf sh.fragment (first n)) (first n) ws refl made (small-prologue sh.fragment (first n) refl)
+          → ((need b BadLayout >> ok (record { codes = first n; prologue = prologue_of sh.fragment (first n); epilogues = map (span_epilogue s) ws })) >>= λ v. todo size executing v o)
+          ≡ todo_of s
+          (if b then (if ltb o (prologue_of sh.fragment (first n)) then skipped s Prologue (code_bytes 0) (prologue_of sh.fragment (first n) - o) else in_hit s o (hit o ws)) else no_spot BadLayout)
+      last n ws made true = todo-place (prologue_of sh.fragment (first n)) (first n) ws refl made (small-prologue sh.fragment (first n) refl)
       last n ws made false = refl
 
       all :
           (n : ℕ) (y : Res (List EpilogueSpan)) → spans s sh.span sh.scopes ≡ y
-          → (((y >>= λ ws. ok (map (spanEpilogue s) ws)) >>= λ es. need (fits sh.span (prologueOf sh.fragment (first n)) es) BadLayout >> ok (record { codes = first n; prologue = prologueOf sh.fragment (first n); epilogues = es })) >>= λ v. todo size executing v o)
-          ≡ todoOf s (inSeen s sh.span sh.scopes (prologueOf sh.fragment (first n)) o (either y Bad (λ ws. All (seenAll sh.span o 0 (unseen sh.span (prologueOf sh.fragment (first n)) (length sh.scopes)) ws))))
+          → (((y >>= λ ws. ok (map (span_epilogue s) ws)) >>= λ es. need (fits sh.span (prologue_of sh.fragment (first n)) es) BadLayout >> ok (record { codes = first n; prologue = prologue_of sh.fragment (first n); epilogues = es })) >>= λ v. todo size executing v o)
+          ≡ todo_of s (in_seen s sh.span sh.scopes (prologue_of sh.fragment (first n)) o (either y Bad (λ ws. All (seen_all sh.span o 0 (unseen sh.span (prologue_of sh.fragment (first n)) (length sh.scopes)) ws))))
       all n (refuse r) q = refl
       all n (ok ws) q =
-          let p = prologueOf sh.fragment (first n) in
+          let p = prologue_of sh.fragment (first n) in
           rw
           (passed-spot s sh.span o p sh.scopes ws q, fits-seen s sh.span o p (length sh.scopes) ws)
-          (last n ws (spans-made s sh.span sh.scopes ws q) (seenAll sh.span o 0 (unseen sh.span p (length sh.scopes)) ws).fits)
+          (last n ws (spans-made s sh.span sh.scopes ws q) (seen_all sh.span o 0 (unseen sh.span p (length sh.scopes)) ws).fits)
 
       go :
           (x : Res ℕ)
-          → (((x >>= λ n. ok (first n)) >>= λ c. epilogues size codesAt sh sh.scopes >>= λ es. need (fits sh.span (prologueOf sh.fragment c) es) BadLayout >> ok (record { codes = c; prologue = prologueOf sh.fragment c; epilogues = es })) >>= λ v. todo size executing v o)
-          ≡ todoOf s (spotBy s sh.span sh.scopes o (passed_by s sh.span sh.fragment sh.scopes o (x >>= λ n. ok (first n))))
+          → (((x >>= λ n. ok (first n)) >>= λ c. epilogues size codes_at sh sh.scopes >>= λ es. need (fits sh.span (prologue_of sh.fragment c) es) BadLayout >> ok (record { codes = c; prologue = prologue_of sh.fragment c; epilogues = es })) >>= λ v. todo size executing v o)
+          ≡ todo_of s (spot_by s sh.span sh.scopes o (passed_by s sh.span sh.fragment sh.scopes o (x >>= λ n. ok (first n))))
       go (refuse r) = refl
       go (ok n) =
           rw
-          (epilogues-spans sh sh.scopes, look-spans s sh.span o 0 (unseen sh.span (prologueOf sh.fragment (first n)) (length sh.scopes)) sh.scopes)
+          (epilogues-spans sh sh.scopes, look-spans s sh.span o 0 (unseen sh.span (prologue_of sh.fragment (first n)) (length sh.scopes)) sh.scopes)
           (all n (spans s sh.span sh.scopes) refl)
 
 -- ---- the list at a spot ends
@@ -477,50 +477,50 @@ abbrev pub Ended : (codes : List ℕ) → Spot → Type 0
 Ended s p = EndedBy s p.index p.verdict
 
 skip-ended :
-    (s : List ℕ) (p : Place) (i : CodeBytes) (k n : ℕ) → (scan s i).ending ≡ ok n → (x : Skipped) → skipAt s i k ≡ x → Ended s (bySkip p x)
+    (s : List ℕ) (p : Place) (i : CodeBytes) (k n : ℕ) → (scan s i).ending ≡ ok n → (x : Skipped) → skip_at s i k ≡ x → Ended s (by_skip p x)
 skip-ended s p i k n h (At j) e = (n, skip-ending s i k j e ∙ h)
 skip-ended s p i k n h Nowhere e = tt
 
 always-ended :
-    (s : List ℕ) (b : Bool) (i : CodeBytes) (k n : ℕ) → (scan s i).ending ≡ ok n → (x : Skipped) → skipAt s i k ≡ x → Ended s (ifAlways b x)
+    (s : List ℕ) (b : Bool) (i : CodeBytes) (k n : ℕ) → (scan s i).ending ≡ ok n → (x : Skipped) → skip_at s i k ≡ x → Ended s (if_always b x)
 always-ended s true i k n h (At j) e = (n, skip-ending s i k j e ∙ h)
 always-ended s false i k n h (At j) e = tt
 always-ended s true i k n h Nowhere e = tt
 always-ended s false i k n h Nowhere e = tt
 
 hit-ended :
-    (s : List ℕ) (o n : ℕ) → (scan s (codeBytes 0)).ending ≡ ok n → (h : Option EpilogueSpan) → HitInside s o h → Ended s (inHit s o h)
+    (s : List ℕ) (o n : ℕ) → (scan s (code_bytes 0)).ending ≡ ok n → (h : Option EpilogueSpan) → HitInside s o h → Ended s (in_hit s o h)
 hit-ended s o n e none i = (n, e)
 hit-ended s o n e (some w) i =
-    always-ended s (executing w.condition) w.index (o - w.start) i.made.end i.made.ends (skipAt s w.index (o - w.start)) refl
+    always-ended s (executing w.condition) w.index (o - w.start) i.made.end i.made.ends (skip_at s w.index (o - w.start)) refl
 
 pub spot-ends :
     (s : List ℕ) (span : ℕ) (f : Bool) (scopes : List Scope) (o : ℕ) → Ended s (spot_of s span f scopes o)
 unfolding spot_of
-spot-ends s span f scopes o = go (scan s (codeBytes 0)).ending refl
+spot-ends s span f scopes o = go (scan s (code_bytes 0)).ending refl
   where
     whole : ℕ → Codes Code
-    whole n = record { list = (scan s (codeBytes 0)).list; endSize = n }
+    whole n = record { list = (scan s (code_bytes 0)).list; end_size = n }
 
     place :
-        (n p : ℕ) (ws : List EpilogueSpan) → (scan s (codeBytes 0)).ending ≡ ok n → AllMade s ws → (b c : Bool)
-        → Ended s (if b then (if c then skipped s Prologue (codeBytes 0) (p - o) else inHit s o (hit o ws)) else noSpot BadLayout)
-    place n p ws e m true true = skip-ended s Prologue (codeBytes 0) (p - o) n e (skipAt s (codeBytes 0) (p - o)) refl
+        (n p : ℕ) (ws : List EpilogueSpan) → (scan s (code_bytes 0)).ending ≡ ok n → AllMade s ws → (b c : Bool)
+        → Ended s (if b then (if c then skipped s Prologue (code_bytes 0) (p - o) else in_hit s o (hit o ws)) else no_spot BadLayout)
+    place n p ws e m true true = skip-ended s Prologue (code_bytes 0) (p - o) n e (skip_at s (code_bytes 0) (p - o)) refl
     place n p ws e m true false = hit-ended s o n e (hit o ws) (hit-inside s o ws m)
     place n p ws e m false c = tt
 
     all :
-        (n p : ℕ) (y : Res (List EpilogueSpan)) → spans s span scopes ≡ y → (scan s (codeBytes 0)).ending ≡ ok n
-        → Ended s (inSeen s span scopes p o (either y Bad (λ ws. All (seenAll span o 0 (unseen span p (length scopes)) ws))))
+        (n p : ℕ) (y : Res (List EpilogueSpan)) → spans s span scopes ≡ y → (scan s (code_bytes 0)).ending ≡ ok n
+        → Ended s (in_seen s span scopes p o (either y Bad (λ ws. All (seen_all span o 0 (unseen span p (length scopes)) ws))))
     all n p (refuse r) q e = tt
     all n p (ok ws) q e =
         subst (Ended s) (sym (passed-spot s span o p scopes ws q))
-        (place n p ws e (spans-made s span scopes ws q) (seenAll span o 0 (unseen span p (length scopes)) ws).fits (ltb o p))
+        (place n p ws e (spans-made s span scopes ws q) (seen_all span o 0 (unseen span p (length scopes)) ws).fits (ltb o p))
 
     go :
-        (x : Res ℕ) → (scan s (codeBytes 0)).ending ≡ x
-        → Ended s (spotBy s span scopes o (passed_by s span f scopes o (x >>= λ n. ok (whole n))))
+        (x : Res ℕ) → (scan s (code_bytes 0)).ending ≡ x
+        → Ended s (spot_by s span scopes o (passed_by s span f scopes o (x >>= λ n. ok (whole n))))
     go (refuse r) e = tt
     go (ok n) e =
-        subst (λ l. Ended s (inSeen s span scopes (prologueOf f (whole n)) o l)) (sym (look-spans s span o 0 (unseen span (prologueOf f (whole n)) (length scopes)) scopes))
-        (all n (prologueOf f (whole n)) (spans s span scopes) refl e)
+        subst (λ l. Ended s (in_seen s span scopes (prologue_of f (whole n)) o l)) (sym (look-spans s span o 0 (unseen span (prologue_of f (whole n)) (length scopes)) scopes))
+        (all n (prologue_of f (whole n)) (spans s span scopes) refl e)

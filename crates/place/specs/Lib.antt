@@ -1,2 +1,2 @@
 pub mod Judged
-pub mod as_coded
+pub mod AsCoded

@@ -1,14 +1,14 @@
 // The epilogues of a record in one pass: what refusals 6 and 7 ask of them, and the number of the one that an offset falls into.
 ghost use Rattle.std.specs.Prelude.{◌≡◌, ◌&&◌, ◌||◌, ◌+◌, ◌^◌, ◌≤◌, ◌<◌, leb, ltb, length};
-ghost use Rattle.words.specs.Units.{codeBytes, halfwords, halfwordBytes};
+ghost use Rattle.words.specs.Units.{code_bytes, halfwords, halfword_bytes as spec_halfword_bytes};
 ghost use Rattle.words.specs.Answer.{verdict, if◌then◌else◌};
 ghost use Rattle.unwinding.specs.View.{view};
-ghost use Rattle.unwinding.specs.as_coded.Lined.{next, reachOf};
+ghost use Rattle.unwinding.specs.AsCoded.Lined.{next, reach_of as spec_reach_of};
 ghost use Rattle.unwinding.specs.Shape.{start_of};
-ghost use Rattle.codes.specs.Code.{size, codesAt};
-ghost use Rattle.codes.specs.as_coded.Rows.{rowNumbers};
-ghost use Rattle.record.specs.as_coded.Plan.{scopesFrom, shape_by};
-ghost use Rattle.place.specs.as_coded.Look.{Ready, measured, bytesIn, spanBy, see as seeOf, lookFrom, passed, judged as judgedOf, unseen as unseenOf};
+ghost use Rattle.codes.specs.Code.{size, codes_at};
+ghost use Rattle.codes.specs.AsCoded.Rows.{row_numbers};
+ghost use Rattle.record.specs.AsCoded.Plan.{scopes_from, shape_by};
+ghost use Rattle.place.specs.AsCoded.Look.{Ready, measured, bytes_in, span_by, see as see_of, look_from, passed, judged as judged_of, unseen as unseen_of};
 
 use super::{EpilogueSpan, Looked, Measured, Passed, Seen};
 use reader::Scanned;
@@ -30,15 +30,15 @@ fn start_of(start: Start, span: u64, size: u64) -> u64
 // The bytes of so many halfwords of instructions, as a pass counts them.
 pub fn bytes_of(count: u64) -> u64
     requires { count < 4096 }
-    ensures { result ≡ halfwordBytes (halfwords count) }
+    ensures { result ≡ spec_halfword_bytes (halfwords count) }
 {
     words::halfword_bytes(Halfwords(count as u32))
 }
 
 // The size of the code list at an index.
 pub fn measure(t: &[u8; 256], codes: &[u8], index: CodeBytes) -> Measured
-    requires { (t.now ≡ rowNumbers) × (length codes.now ≤ 1020) }
-    ensures { (result ≡ measured (codesAt codes.now index)) × (bytesIn result < 8192) }
+    requires { (t.now ≡ row_numbers) × (length codes.now ≤ 1020) }
+    ensures { (result ≡ measured (codes_at codes.now index)) × (bytes_in result < 8192) }
 {
     match reader::scan(t, codes, index) {
         Scanned::Ends(list, end) => Measured::Bytes(bytes_of(list + end)),
@@ -54,8 +54,8 @@ fn measure_after(
     at: CodeBytes,
     size: u64,
 ) -> Measured
-    requires { (t.now ≡ rowNumbers) × (length codes.now ≤ 1020) × (Measured.Bytes size ≡ measured (codesAt codes.now at)) × (size < 8192) }
-    ensures { (result ≡ measured (codesAt codes.now index)) × (bytesIn result < 8192) }
+    requires { (t.now ≡ row_numbers) × (length codes.now ≤ 1020) × (Measured.Bytes size ≡ measured (codes_at codes.now at)) × (size < 8192) }
+    ensures { (result ≡ measured (codes_at codes.now index)) × (bytes_in result < 8192) }
 {
     if index.0 == at.0 {
         return Measured::Bytes(size);
@@ -66,7 +66,7 @@ fn measure_after(
 // The epilogue of a scope whose codes have this size.
 pub fn epilogue_span(e: Scope, span: u64, size: u64) -> EpilogueSpan
     requires { (span < 2 ^ 32) × (size < 8192) }
-    ensures { (result ≡ spanBy span e size) × (result.start + result.size < 2 ^ 33) }
+    ensures { (result ≡ span_by span e size) × (result.start + result.size < 2 ^ 33) }
 {
     let start = e.start;
     let index = e.index;
@@ -88,7 +88,7 @@ fn in_line(span: u64, floor: u64, reach: u64, start: u64, end: u64) -> bool
 
 // Where the last epilogue that is not empty ends.
 fn reach_of(reach: u64, start: u64, end: u64) -> u64
-    ensures { result ≡ reachOf reach (record { from = start; to = end }) }
+    ensures { result ≡ spec_reach_of reach (record { from = start; to = end }) }
 {
     if end <= start { reach } else { end }
 }
@@ -103,7 +103,7 @@ fn at_of(o: u64, at: usize, k: usize, start: u64, end: u64) -> usize
 // What has been seen with one epilogue more, of this number.
 fn see(span: u64, o: u64, k: usize, s: Seen, w: EpilogueSpan) -> Seen
     requires { w.start + w.size < 2 ^ 33 }
-    ensures { result ≡ seeOf span o k s w }
+    ensures { result ≡ see_of span o k s w }
 {
     let start = w.start;
     let end = start + w.size;
@@ -139,8 +139,8 @@ fn look(
     seen: Seen,
     first: u64,
 ) -> Looked
-    requires { Ready t.now codes.now plan xdata.now × (Measured.Bytes first ≡ measured (codesAt codes.now (codeBytes 0))) × (first < 8192) }
-    ensures { result ≡ lookFrom codes.now plan.span o 0 seen (scopesFrom plan.scopes xdata.now 0 plan.count) }
+    requires { Ready t.now codes.now plan xdata.now × (Measured.Bytes first ≡ measured (codes_at codes.now (code_bytes 0))) × (first < 8192) }
+    ensures { result ≡ look_from codes.now plan.span o 0 seen (scopes_from plan.scopes xdata.now 0 plan.count) }
 {
     let span = span_of(plan);
     let n = count_of(plan);
@@ -169,7 +169,7 @@ fn look(
 
 // Before any epilogue, of n: the prologue is what must not be shared.
 fn unseen(span: u64, p: u64, n: usize) -> Seen
-    ensures { result ≡ unseenOf span p n }
+    ensures { result ≡ unseen_of span p n }
 {
     Seen {
         floor: 0,
@@ -182,14 +182,14 @@ fn unseen(span: u64, p: u64, n: usize) -> Seen
 // The bytes of a prologue whose instructions take so many halfwords; a fragment has none.
 fn prologue_of(fragment: bool, list: u64) -> u64
     requires { list < 4096 }
-    ensures { result ≡ (if fragment then 0 else halfwordBytes (halfwords list)) }
+    ensures { result ≡ (if fragment then 0 else spec_halfword_bytes (halfwords list)) }
 {
     if fragment { 0 } else { bytes_of(list) }
 }
 
 // 6 and 7, by what the pass came to.
 fn judged(looked: Looked) -> Verdict
-    ensures { result ≡ judgedOf looked }
+    ensures { result ≡ judged_of looked }
 {
     match looked {
         Looked::Bad(r) => Verdict::Refused(r),
@@ -206,7 +206,7 @@ fn judged(looked: Looked) -> Verdict
 // The prologue and the epilogues of a record. The code list at index 0 is scanned once for both.
 pub fn pass(t: &[u8; 256], codes: &[u8], plan: Plan, xdata: &[u8], o: u64) -> Passed
     requires { Ready t.now codes.now plan xdata.now }
-    ensures { result ≡ passed codes.now plan.span plan.fragment (scopesFrom plan.scopes xdata.now 0 plan.count) o }
+    ensures { result ≡ passed codes.now plan.span plan.fragment (scopes_from plan.scopes xdata.now 0 plan.count) o }
 {
     match reader::scan(t, codes, CodeBytes(0)) {
         Scanned::Ends(list, end) => {
@@ -228,7 +228,7 @@ pub fn pass(t: &[u8; 256], codes: &[u8], plan: Plan, xdata: &[u8], o: u64) -> Pa
 // 6 and 7 for a record's plan and code bytes. They are the same for each offset of the pass.
 pub fn judge(t: &[u8; 256], codes: &[u8], plan: Plan, xdata: &[u8]) -> Verdict
     requires { Ready t.now codes.now plan xdata.now }
-    ensures { result ≡ verdict (view size codesAt (shape_by plan codes.now xdata.now)) }
+    ensures { result ≡ verdict (view size codes_at (shape_by plan codes.now xdata.now)) }
 {
     let q = pass(t, codes, plan, xdata, 0);
     let looked = q.looked;

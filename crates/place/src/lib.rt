@@ -3,15 +3,15 @@
 pub mod layout; // the epilogues of a record in one pass
 
 ghost use Rattle.std.specs.Prelude.{◌≡◌, ◌-◌, ◌^◌, ◌≤◌, ◌<◌, length};
-ghost use Rattle.words.specs.Units.{codeBytes};
-ghost use Rattle.reader.specs.as_coded.Skip.{skipAt};
-ghost use Rattle.record.specs.as_coded.Plan.{scopesFrom};
-ghost use Rattle.place.specs.as_coded.Look.{Ready, bySkip, inEpilogue, inScope, inHere, inSeen, spot_of, noSpot as noSpotOf};
+ghost use Rattle.words.specs.Units.{code_bytes};
+ghost use Rattle.reader.specs.AsCoded.Skip.{skip_at};
+ghost use Rattle.record.specs.AsCoded.Plan.{scopes_from};
+ghost use Rattle.place.specs.AsCoded.Look.{Ready, by_skip, in_epilogue as spec_in_epilogue, in_scope as spec_in_scope, in_here as spec_in_here, in_seen as spec_in_seen, spot_of, no_spot as no_spot_of};
 ghost use Rattle.lent.specs.Lent.{lent};
 ghost use Rattle.words.specs.Answer.{verdict};
-ghost use Rattle.place.specs.Judged.{viewAt};
-ghost use Rattle.codes.specs.as_coded.Rows.{rowNumbers};
-ghost use Rattle.place.specs.as_coded.Placed.{refusedOf, inPlan, anyPlaced};
+ghost use Rattle.place.specs.Judged.{view_at};
+ghost use Rattle.codes.specs.AsCoded.Rows.{row_numbers};
+ghost use Rattle.place.specs.AsCoded.Placed.{refused_of, in_plan as spec_in_plan, any_placed};
 
 use reader::Skipped;
 use record::{Part, Plan};
@@ -87,7 +87,7 @@ pub struct AnyPlaced {
 }
 
 fn no_spot(r: Refusal) -> Spot
-    ensures { result ≡ noSpotOf r }
+    ensures { result ≡ no_spot_of r }
 {
     Spot {
         verdict: Verdict::Refused(r),
@@ -105,8 +105,8 @@ fn past(o: u64, from: u64) -> u64
 
 // In the prologue: skips the codes whose instructions have still to run (RULES 5.8).
 fn in_prologue(t: &[u8; 256], codes: &[u8], k: u64) -> Spot
-    requires { t.now ≡ rowNumbers }
-    ensures { result ≡ bySkip Place.Prologue (skipAt codes.now (codeBytes 0) k) }
+    requires { t.now ≡ row_numbers }
+    ensures { result ≡ by_skip Place.Prologue (skip_at codes.now (code_bytes 0) k) }
 {
     match reader::skip(t, codes, CodeBytes(0), k) {
         Skipped::At(index) => Spot {
@@ -120,8 +120,8 @@ fn in_prologue(t: &[u8; 256], codes: &[u8], k: u64) -> Spot
 
 // In an epilogue: skips the codes whose instructions have run (RULES 5.9); 9 before 10.
 fn in_epilogue(t: &[u8; 256], codes: &[u8], o: u64, w: EpilogueSpan) -> Spot
-    requires { t.now ≡ rowNumbers }
-    ensures { result ≡ inEpilogue codes.now o w }
+    requires { t.now ≡ row_numbers }
+    ensures { result ≡ spec_in_epilogue codes.now o w }
 {
     match reader::skip(t, codes, w.index, past(o, w.start)) {
         Skipped::At(index) => {
@@ -141,8 +141,8 @@ fn in_epilogue(t: &[u8; 256], codes: &[u8], o: u64, w: EpilogueSpan) -> Spot
 
 // In the epilogue of a scope, whose codes are read again: the pass over the epilogues keeps only its number.
 fn in_scope(t: &[u8; 256], codes: &[u8], span: u64, o: u64, e: Scope) -> Spot
-    requires { (t.now ≡ rowNumbers) × (length codes.now ≤ 1020) × (span < 2 ^ 32) }
-    ensures { result ≡ inScope codes.now span o e }
+    requires { (t.now ≡ row_numbers) × (length codes.now ≤ 1020) × (span < 2 ^ 32) }
+    ensures { result ≡ spec_in_scope codes.now span o e }
 {
     match layout::measure(t, codes, e.index) {
         Measured::Bytes(size) => in_epilogue(t, codes, o, layout::epilogue_span(e, span, size)),
@@ -153,7 +153,7 @@ fn in_scope(t: &[u8; 256], codes: &[u8], span: u64, o: u64, e: Scope) -> Spot
 // In the epilogue of a number, or, where none has it, in the body.
 fn in_here(t: &[u8; 256], codes: &[u8], plan: Plan, xdata: &[u8], o: u64, at: usize) -> Spot
     requires { Ready t.now codes.now plan xdata.now }
-    ensures { result ≡ inHere codes.now plan.span (scopesFrom plan.scopes xdata.now 0 plan.count) o at }
+    ensures { result ≡ spec_in_here codes.now plan.span (scopes_from plan.scopes xdata.now 0 plan.count) o at }
 {
     if at < plan.count {
         let e = record::scope(plan, xdata, at);
@@ -177,7 +177,7 @@ fn in_seen(
     looked: Looked,
 ) -> Spot
     requires { Ready t.now codes.now plan xdata.now }
-    ensures { result ≡ inSeen codes.now plan.span (scopesFrom plan.scopes xdata.now 0 plan.count) p o looked }
+    ensures { result ≡ spec_in_seen codes.now plan.span (scopes_from plan.scopes xdata.now 0 plan.count) p o looked }
 {
     match looked {
         Looked::Bad(r) => no_spot(r),
@@ -196,7 +196,7 @@ fn in_seen(
 // The place of an offset in a record, and the index of the first code that runs there.
 fn spot_in(t: &[u8; 256], codes: &[u8], plan: Plan, xdata: &[u8], o: u64) -> Spot
     requires { Ready t.now codes.now plan xdata.now }
-    ensures { result ≡ spot_of codes.now plan.span plan.fragment (scopesFrom plan.scopes xdata.now 0 plan.count) o }
+    ensures { result ≡ spot_of codes.now plan.span plan.fragment (scopes_from plan.scopes xdata.now 0 plan.count) o }
 {
     let q = layout::pass(t, codes, plan, xdata, o);
     let looked = q.looked;
@@ -205,7 +205,7 @@ fn spot_in(t: &[u8; 256], codes: &[u8], plan: Plan, xdata: &[u8], o: u64) -> Spo
 
 // A refused record.
 fn refused(why: Refusal) -> Placed
-    ensures { result ≡ refusedOf why }
+    ensures { result ≡ refused_of why }
 {
     Placed {
         verdict: Verdict::Refused(why),
@@ -219,7 +219,7 @@ fn refused(why: Refusal) -> Placed
 // By a record's plan, whose scope words are in the .xdata, and code bytes, at an offset that its function covers or not.
 fn in_plan(t: &[u8; 256], codes: &[u8], plan: Plan, xdata: &[u8], o: u64) -> Placed
     requires { Ready t.now codes.now plan xdata.now }
-    ensures { result ≡ inPlan plan codes.now xdata.now o }
+    ensures { result ≡ spec_in_plan plan codes.now xdata.now o }
 {
     if o < plan.span as u64 {
         let s = spot_in(t, codes, plan, xdata, o);
@@ -245,8 +245,8 @@ fn in_plan(t: &[u8; 256], codes: &[u8], plan: Plan, xdata: &[u8], o: u64) -> Pla
 
 // Where an offset stands in the record that word 1 of a .pdata record names. The table of codes is lent.
 pub fn at(t: &[u8; 256], rva: u32, xdata: &[u8], word: u32, o: u64) -> AnyPlaced
-    requires { t.now ≡ rowNumbers }
-    ensures { result ≡ anyPlaced (lent rva xdata.now) word o }
+    requires { t.now ≡ row_numbers }
+    ensures { result ≡ any_placed (lent rva xdata.now) word o }
 {
     let f = record::read(rva, xdata, word);
     let bytes = f.bytes;
@@ -281,7 +281,7 @@ pub fn at(t: &[u8; 256], rva: u32, xdata: &[u8], word: u32, o: u64) -> AnyPlaced
 
 // 4 to 7 for word 1 of a .pdata record, without a pc.
 pub fn judge(rva: u32, xdata: &[u8], word: u32) -> Verdict
-    ensures { result ≡ verdict (viewAt (lent rva xdata.now) word) }
+    ensures { result ≡ verdict (view_at (lent rva xdata.now) word) }
 {
     let f = record::read(rva, xdata, word);
     let verdict = f.verdict;

@@ -13,10 +13,10 @@ use Rattle.words.specs.Answer.{Res, ok, refuse}
 use Rattle.unwinding.specs.CodeList.{total}
 use Rattle.unwinding.proofs.Ends.{total-empty, total-step}
 use Rattle.unwinding.specs.Taking.{Scan}
-use Rattle.codes.specs.Code.{takeAt, seen, scan, halves}
-use Rattle.reader.specs.as_coded.Reading.{past, scanned, turn, more}
+use Rattle.codes.specs.Code.{take_at, seen, scan, halves}
+use Rattle.reader.specs.AsCoded.Reading.{past, scanned, turn, more}
 use Rattle.codes.specs.declared.Code.{Code}
-use Rattle.codes.specs.as_coded.Sizing.{sized}
+use Rattle.codes.specs.AsCoded.Sizing.{sized}
 use Rattle.codes.specs.declared.Sized.{Sized}
 use Rattle.codes.specs.declared.Sized.TheVariants as S
 use Rattle.codes.specs.declared.Taken.{Taken}
@@ -67,7 +67,7 @@ starts m i = plus_none (scanned (scan m i))
 
 module _ {m : List ℕ} {i : CodeBytes} (h : Here m i) where
   abbrev taken : Taken
-  taken = takeAt m h.at
+  taken = take_at m h.at
 
   abbrev there : Sized
   there = sized taken

@@ -16,14 +16,14 @@ use Rattle.unwinding.specs.Taking.{Scan}
 use Rattle.unwinding.proofs.All.{Sized}
 use Rattle.unwinding.proofs.Ends.{total-empty, total-step}
 use Rattle.unwinding.proofs.Scanning.{take_next, by-scan, codes_all}
-use Rattle.codes.specs.Code.{size, scan, codesAt, halves}
-use Rattle.reader.specs.as_coded.Reading.{scanned}
+use Rattle.codes.specs.Code.{size, scan, codes_at, halves}
+use Rattle.reader.specs.AsCoded.Reading.{scanned}
 use Rattle.codes.specs.declared.Code.{Code}
 use Rattle.reader.specs.declared.Scanned.TheVariants.{Ends, Refused}
 use Rattle.codes.proofs.Scanning.{takes, take-size, take_last}
 
 -- each code of a list has an instruction
-pub codes-sized : (s : List ℕ) (i : CodeBytes) (c : Codes Code) → codesAt s i ≡ ok c → Sized size c.list
+pub codes-sized : (s : List ℕ) (i : CodeBytes) (c : Codes Code) → codes_at s i ≡ ok c → Sized size c.list
 codes-sized s = codes_all takes (λ c. 0 < size c) s (λ j c next e. omega (arith, (take-size s j e).0))
 
 -- sizes in bytes are twice those in halfwords
@@ -79,8 +79,8 @@ scanned-refused s i r q = go (scan s i).ending refl q
 
 -- so a pass finds what the code list at an index is
 pub codes-end :
-    (s : List ℕ) (i : CodeBytes) (h e : ℕ) → scanned (scan s i) ≡ Ends h e → codesAt s i ≡ ok (record { list = (scan s i).list; endSize = 2 * e })
-codes-end s i h e q = ap (λ x. x >>= λ n. ok (record { list = (scan s i).list; endSize = n })) (scanned-ends s i h e q).end-bytes
+    (s : List ℕ) (i : CodeBytes) (h e : ℕ) → scanned (scan s i) ≡ Ends h e → codes_at s i ≡ ok (record { list = (scan s i).list; end_size = 2 * e })
+codes-end s i h e q = ap (λ x. x >>= λ n. ok (record { list = (scan s i).list; end_size = n })) (scanned-ends s i h e q).end-bytes
 
-pub codes-refused : (s : List ℕ) (i : CodeBytes) (r : Refusal) → scanned (scan s i) ≡ Refused r → codesAt s i ≡ refuse r
-codes-refused s i r q = ap (λ x. x >>= λ n. ok (record { list = (scan s i).list; endSize = n })) (scanned-refused s i r q)
+pub codes-refused : (s : List ℕ) (i : CodeBytes) (r : Refusal) → scanned (scan s i) ≡ Refused r → codes_at s i ≡ refuse r
+codes-refused s i r q = ap (λ x. x >>= λ n. ok (record { list = (scan s i).list; end_size = n })) (scanned-refused s i r q)

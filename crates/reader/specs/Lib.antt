@@ -1,1 +1,1 @@
-pub mod as_coded
+pub mod AsCoded

@@ -1,11 +1,11 @@
 // The reader on code bytes: one code after the other, a pass over a code list, and skipping codes. It knows neither registers nor
 // records.
 ghost use Rattle.std.specs.Prelude.{◌≡◌, ◌+◌, ◌<◌};
-ghost use Rattle.codes.specs.Code.{takeAt, scan as scanOf};
-ghost use Rattle.codes.specs.as_coded.Rows.{rowNumbers};
-ghost use Rattle.codes.specs.as_coded.Sizing.{sized};
-ghost use Rattle.reader.specs.as_coded.Reading.{past, moved, scanned, turn, so_far, more};
-ghost use Rattle.reader.specs.as_coded.Skip.{skipAt};
+ghost use Rattle.codes.specs.Code.{take_at, scan as scan_of};
+ghost use Rattle.codes.specs.AsCoded.Rows.{row_numbers};
+ghost use Rattle.codes.specs.AsCoded.Sizing.{sized};
+ghost use Rattle.reader.specs.AsCoded.Reading.{past, moved, scanned, turn, so_far, more};
+ghost use Rattle.reader.specs.AsCoded.Skip.{skip_at};
 
 use codes::{Sized, size_at};
 use words::{CodeBytes, Refusal, halfword_bytes};
@@ -32,8 +32,8 @@ struct Moved {
 }
 
 fn move_at(codes: &[u8], at: CodeBytes, t: &[u8; 256]) -> Moved
-    requires { t.now ≡ rowNumbers }
-    ensures { result ≡ moved (sized (takeAt codes.now at)) at }
+    requires { t.now ≡ row_numbers }
+    ensures { result ≡ moved (sized (take_at codes.now at)) at }
 {
     let taken = size_at(t, codes, at);
     match taken {
@@ -52,9 +52,9 @@ impl<'a> Reader<'a> {
 
     // Takes one code, and hands the reader on. The table of `codes` is lent.
     pub fn take(self, t: &[u8; 256]) -> Step<'a>
-        requires { t.now ≡ rowNumbers }
-        ensures { (result.taken ≡ sized (takeAt self.entry.codes.now self.entry.at))
-            × (result.rest ≡ record { codes = self.entry.codes; at = past (sized (takeAt self.entry.codes.now self.entry.at)) self.entry.at }) }
+        requires { t.now ≡ row_numbers }
+        ensures { (result.taken ≡ sized (take_at self.entry.codes.now self.entry.at))
+            × (result.rest ≡ record { codes = self.entry.codes; at = past (sized (take_at self.entry.codes.now self.entry.at)) self.entry.at }) }
     {
         let m = move_at(self.codes, self.at, t);
         Step {
@@ -117,8 +117,8 @@ fn add(s: Scanned, t: Sized) -> Turn
 
 // One pass of a reader over the code list at an index. The table of `codes` is lent.
 pub fn scan(t: &[u8; 256], codes: &[u8], at: CodeBytes) -> Scanned
-    requires { t.now ≡ rowNumbers }
-    ensures { result ≡ scanned (scanOf codes.now at) }
+    requires { t.now ≡ row_numbers }
+    ensures { result ≡ scanned (scan_of codes.now at) }
 {
     let mut r = Reader::new(codes, at);
     let mut s = Scanned::Ends(0, 0);
@@ -143,8 +143,8 @@ pub enum Skipped {
 
 // Skips the codes from an index on whose instructions take n bytes. The table of `codes` is lent.
 pub fn skip(t: &[u8; 256], codes: &[u8], at: CodeBytes, n: u64) -> Skipped
-    requires { t.now ≡ rowNumbers }
-    ensures { result ≡ skipAt codes.now at n }
+    requires { t.now ≡ row_numbers }
+    ensures { result ≡ skip_at codes.now at n }
 {
     let mut i = at.0;
     let mut left = n;

@@ -7,12 +7,12 @@ use Rattle.unwinding.specs.Shape.{Shape}
 use Rattle.unwinding.specs.View.{view}
 use Rattle.unwinding.specs.Todo.{Todo, todo}
 use Rattle.codes.specs.declared.Code.{Code}
-use Rattle.codes.specs.Code.{size, codesAt}
+use Rattle.codes.specs.Code.{size, codes_at}
 use Rattle.codes.specs.Condition.{executing}
 
 -- the place of an offset in a record, and the codes that run there
 abbrev pub at : Res Shape → ℕ → Res (Todo Code)
-at s o = s >>= λ s. view size codesAt s >>= λ v. todo size executing v o
+at s o = s >>= λ s. view size codes_at s >>= λ v. todo size executing v o
 
 abbrev pub says : Place → List Code → Res (Todo Code)
 says p l = ok (record { place = p; codes = l })

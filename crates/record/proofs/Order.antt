@@ -8,8 +8,8 @@ use Rattle.lent.specs.Lent.{Lent}
 use Rattle.words.specs.declared.Refusal.TheVariants.{UnfitInput, PcBelowBase, StartsNotAscending, Reserved, OutsideXdata}
 use Rattle.words.specs.Answer.{ok, refuse}
 use Rattle.pdata.specs.Pdata.{find}
-use Rattle.xdata.specs.Xdata.{xdataSize}
-use Rattle.record.specs.Record.{fullShape, packedShape}
+use Rattle.xdata.specs.Xdata.{xdata_size}
+use Rattle.record.specs.Record.{full_shape, packed_shape}
 use Rattle.record.proofs.Opened.{opened}
 use Rattle.lent.proofs.Bytes.{bytes_of}
 
@@ -35,55 +35,55 @@ abbrev x : List ℕ → Lent
 x s = record { base = 0x1000; bytes = s }
 
 -- a full record, in the order of RULES 9.52. The first word before Vers: three bytes, of which the last has Vers
-first_word : fullShape (x (0 ∷ 0 ∷ 0x04 ∷ [])) 0x1000 ≡ refuse OutsideXdata
+first_word : full_shape (x (0 ∷ 0 ∷ 0x04 ∷ [])) 0x1000 ≡ refuse OutsideXdata
 unfolding opened
 first_word = refl
 
 -- Vers before the extension word
-vers : fullShape (x (bytes_of (0x00040000 ∷ []))) 0x1000 ≡ refuse Reserved
+vers : full_shape (x (bytes_of (0x00040000 ∷ []))) 0x1000 ≡ refuse Reserved
 unfolding opened
 vers = refl
 
-extension : fullShape (x (bytes_of (0 ∷ []))) 0x1000 ≡ refuse OutsideXdata
+extension : full_shape (x (bytes_of (0 ∷ []))) 0x1000 ≡ refuse OutsideXdata
 unfolding opened
 extension = refl
 
 -- the extension word's bits 24-31 before the whole record
-reserved-byte : fullShape (x (bytes_of (0 ∷ 0x01000001 ∷ []))) 0x1000 ≡ refuse Reserved
+reserved-byte : full_shape (x (bytes_of (0 ∷ 0x01000001 ∷ []))) 0x1000 ≡ refuse Reserved
 unfolding opened
 reserved-byte = refl
 
 -- the whole record before Res: one scope with Res 1, and no code word
-whole-record : fullShape (x (bytes_of (0x10800010 ∷ 0x00040000 ∷ []))) 0x1000 ≡ refuse OutsideXdata
+whole-record : full_shape (x (bytes_of (0x10800010 ∷ 0x00040000 ∷ []))) 0x1000 ≡ refuse OutsideXdata
 unfolding opened
 whole-record = refl
 
-scope-res : fullShape (x (bytes_of (0x10800010 ∷ 0x00040000 ∷ 0xFF ∷ []))) 0x1000 ≡ refuse Reserved
+scope-res : full_shape (x (bytes_of (0x10800010 ∷ 0x00040000 ∷ 0xFF ∷ []))) 0x1000 ≡ refuse Reserved
 unfolding opened
 scope-res = refl
 
 -- the size routine (RULES 2.13, 9.55) does not look at Res, clears the RVA's bits 0-1, and gives 1 first
-size-stops : xdataSize (x (bytes_of (0x10800010 ∷ 0x00040000 ∷ 0xFF ∷ []))) 0x1003 ≡ ok 12
+size-stops : xdata_size (x (bytes_of (0x10800010 ∷ 0x00040000 ∷ 0xFF ∷ []))) 0x1003 ≡ ok 12
 unfolding opened
 size-stops = refl
 
-size-unfit : xdataSize (record { base = 0x1002; bytes = [] }) 0x1000 ≡ refuse UnfitInput
+size-unfit : xdata_size (record { base = 0x1002; bytes = [] }) 0x1000 ≡ refuse UnfitInput
 unfolding opened
 size-unfit = refl
 
 -- packed words that cannot be, one for each case of RULES 4.5
-flag-3 : packedShape 0x00900043 ≡ refuse Reserved
+flag-3 : packed_shape 0x00900043 ≡ refuse Reserved
 unfolding opened
 flag-3 = refl
 
-ret-l : packedShape 0x00810041 ≡ refuse Reserved
+ret-l : packed_shape 0x00810041 ≡ refuse Reserved
 unfolding opened
 ret-l = refl
 
-c-l : packedShape 0x00A12041 ≡ refuse Reserved
+c-l : packed_shape 0x00A12041 ≡ refuse Reserved
 unfolding opened
 c-l = refl
 
-c-reg-7 : packedShape 0x00B70041 ≡ refuse Reserved
+c-reg-7 : packed_shape 0x00B70041 ≡ refuse Reserved
 unfolding opened
 c-reg-7 = refl

@@ -5,7 +5,7 @@ use mathlib.Core.Path.{◌≡◌, refl}
 use mathlib.Core.List.{List, ◌∷◌, ◌++◌, []}
 use lib.ListN.{replicate, length}
 use Rattle.lent.specs.Lent.{Lent}
-use Rattle.words.specs.Units.{halfwords, stack_words, codeBytes}
+use Rattle.words.specs.Units.{halfwords, stack_words, code_bytes}
 use Rattle.words.specs.declared.Verdict.TheVariants.{Given}
 use Rattle.words.specs.declared.Place.TheVariants.{Prologue, Body, Epilogue}
 use Rattle.words.specs.declared.Refusal.TheVariants.{InsideInstruction}
@@ -15,20 +15,20 @@ use Rattle.codes.specs.declared.Undo.{Undo}
 use Rattle.codes.specs.declared.Undo.TheVariants.{Up, Pop, SpFrom}
 use Rattle.packed_codes.specs.declared.CodesOf.{CodesOf}
 use Rattle.packed.specs.declared.Packed.{Packed}
-use Rattle.packed.specs.Packed.{writeWord}
-use Rattle.packed_codes.specs.PackedCodes.{writeCodes}
-use Rattle.xdata.specs.Xdata.{xdataSize}
-use Rattle.record.specs.Record.{fullShape}
+use Rattle.packed.specs.Packed.{write_word}
+use Rattle.packed_codes.specs.PackedCodes.{write_codes}
+use Rattle.xdata.specs.Xdata.{xdata_size}
+use Rattle.record.specs.Record.{full_shape}
 use Rattle.record.proofs.Opened.{opened}
 use Rattle.lent.proofs.Bytes.{bytes_of}
 use Rattle.record.proofs.At.{at, says}
 
 abbrev wrote : (first second : List ℕ) → (rest : ℕ) → Res CodesOf
 wrote a b n =
-    ok (record { verdict = Given; bytes = a ++ b ++ replicate n 0; first = codeBytes (length a); second = codeBytes (length b) })
+    ok (record { verdict = Given; bytes = a ++ b ++ replicate n 0; first = code_bytes (length a); second = code_bytes (length b) })
 
 abbrev codes_of : Packed → Res CodesOf
-codes_of p = writeWord p >>= writeCodes
+codes_of p = write_word p >>= write_codes
 
 -- Flag 1, Stack Adjust and C 0 unless said
 abbrev fields : (length ret h reg r l adjust : ℕ) → Packed
@@ -69,29 +69,29 @@ pop-lr = refl
 abbrev four : Lent
 four = record { base = 0x1000; bytes = bytes_of (0x120001A3 ∷ 0x00E00011 ∷ 0x00E000A5 ∷ 0x00E00170 ∷ 0x00E00189 ∷ 0x00FFDE06 ∷ []) }
 
-page-4-size : xdataSize four 0x1000 ≡ ok 24
+page-4-size : xdata_size four 0x1000 ≡ ok 24
 unfolding opened
 page-4-size = refl
 
 abbrev c06 : Code
 c06 = narrow (Up (stack_words 6))
 
-abbrev cDE : Code
-cDE = wide (Pop (0x7F0 + 2 ^ 14))
+abbrev c_de : Code
+c_de = wide (Pop (0x7F0 + 2 ^ 14))
 
-page-4-prologue : at (fullShape four 0x1000) 4 ≡ says Prologue (cDE ∷ [])
+page-4-prologue : at (full_shape four 0x1000) 4 ≡ says Prologue (c_de ∷ [])
 unfolding opened
 page-4-prologue = refl
 
-page-4-third : at (fullShape four 0x1000) 0x2E2 ≡ says Epilogue (cDE ∷ [])
+page-4-third : at (full_shape four 0x1000) 0x2E2 ≡ says Epilogue (c_de ∷ [])
 unfolding opened
 page-4-third = refl
 
-page-4-inside : at (fullShape four 0x1000) 0x2E4 ≡ refuse InsideInstruction
+page-4-inside : at (full_shape four 0x1000) 0x2E4 ≡ refuse InsideInstruction
 unfolding opened
 page-4-inside = refl
 
-page-4-last : at (fullShape four 0x1000) 0x342 ≡ says Body (c06 ∷ cDE ∷ [])
+page-4-last : at (full_shape four 0x1000) 0x342 ≡ says Body (c06 ∷ c_de ∷ [])
 unfolding opened
 page-4-last = refl
 
@@ -102,18 +102,18 @@ dynamic = record { base = 0x1000; bytes = bytes_of (0x10800207 ∷ 0x00E000C6 �
 abbrev c04 : Code
 c04 = narrow (Up (stack_words 4))
 
-abbrev cDC : Code
-cDC = wide (Pop (0x1F0 + 2 ^ 14))
+abbrev c_dc : Code
+c_dc = wide (Pop (0x1F0 + 2 ^ 14))
 
-page-5-body : at (fullShape dynamic 0x1000) 0x100 ≡ says Body (narrow (SpFrom 6) ∷ cDC ∷ c04 ∷ [])
+page-5-body : at (full_shape dynamic 0x1000) 0x100 ≡ says Body (narrow (SpFrom 6) ∷ c_dc ∷ c04 ∷ [])
 unfolding opened
 page-5-body = refl
 
-page-5-epilogue : at (fullShape dynamic 0x1000) 0x18E ≡ says Epilogue (cDC ∷ c04 ∷ [])
+page-5-epilogue : at (full_shape dynamic 0x1000) 0x18E ≡ says Epilogue (c_dc ∷ c04 ∷ [])
 unfolding opened
 page-5-epilogue = refl
 
-page-5-bx : at (fullShape dynamic 0x1000) 0x194 ≡ says Epilogue []
+page-5-bx : at (full_shape dynamic 0x1000) 0x194 ≡ says Epilogue []
 unfolding opened
 page-5-bx = refl
 
@@ -121,14 +121,14 @@ page-5-bx = refl
 abbrev handled : Lent
 handled = record { base = 0x1000; bytes = bytes_of (0x20300027 ∷ 0x90ED05C7 ∷ 0x000000FF ∷ 0x0019A7ED ∷ []) }
 
-page-6-size : xdataSize handled 0x1000 ≡ ok 16
+page-6-size : xdata_size handled 0x1000 ≡ ok 16
 unfolding opened
 page-6-size = refl
 
-page-6-handler : (fullShape handled 0x1000 >>= λ s. ok s.handler) ≡ ok 0x0019A7ED
+page-6-handler : (full_shape handled 0x1000 >>= λ s. ok s.handler) ≡ ok 0x0019A7ED
 unfolding opened
 page-6-handler = refl
 
-page-6-epilogue : at (fullShape handled 0x1000) 0x4C ≡ says Epilogue (narrow (Pop (2 ^ 4 + 2 ^ 7 + 2 ^ 14)) ∷ [])
+page-6-epilogue : at (full_shape handled 0x1000) 0x4C ≡ says Epilogue (narrow (Pop (2 ^ 4 + 2 ^ 7 + 2 ^ 14)) ∷ [])
 unfolding opened
 page-6-epilogue = refl

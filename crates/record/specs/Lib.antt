@@ -1,2 +1,2 @@
 pub mod Record
-pub mod as_coded
+pub mod AsCoded

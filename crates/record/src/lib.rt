@@ -5,8 +5,8 @@ ghost use Rattle.lent.specs.Lent.{lent};
 ghost use Rattle.words.specs.Answer.{refuse, verdict, if◌then◌else◌};
 ghost use Rattle.record.specs.Record.{shape_at};
 ghost use Rattle.packed.specs.Packed.{Fit};
-ghost use Rattle.xdata.specs.Xdata.{E, codesOffset};
-ghost use Rattle.record.specs.as_coded.Plan.{read_of, picked, scopeIn, scopesEnd, scopesOf, plan_of, fullBy, after_head, fullPlan, fullAnswer, noPlan, packedPlanBy, packedBy, packedPlan, packedAnswer};
+ghost use Rattle.xdata.specs.Xdata.{E, codes_offset as spec_codes_offset};
+ghost use Rattle.record.specs.AsCoded.Plan.{read_of, picked, scope_in, scopes_end, scopes_of as spec_scopes_of, plan_of, full_by, after_head, full_plan, full_answer, no_plan, packed_plan_by, packed_by as spec_packed_by, packed_plan, packed_answer};
 
 use packed::Packed;
 use packed_codes::CodesOf;
@@ -84,8 +84,8 @@ pub fn pick<'a>(
 
 // The scope of a number; a plan has as many as its count says, and whoever read the plan has found their words in the .xdata.
 pub fn scope(plan: Plan, xdata: &[u8], k: usize) -> Scope
-    requires { scopesEnd plan.scopes (k + 1) ≤ length xdata.now }
-    ensures { result ≡ scopeIn plan.scopes xdata.now k }
+    requires { scopes_end plan.scopes (k + 1) ≤ length xdata.now }
+    ensures { result ≡ scope_in plan.scopes xdata.now k }
 {
     let scopes = plan.scopes;
     match scopes {
@@ -111,7 +111,7 @@ fn offset(rva: u32, at: u32) -> usize
 // Where a record's scopes stand.
 fn scopes_of(offset: usize, h: Head) -> Scopes
     requires { offset < 4294967296 }
-    ensures { result ≡ scopesOf offset h }
+    ensures { result ≡ spec_scopes_of offset h }
 {
     if xdata::has_last(h) {
         return Scopes::Ending(CodeBytes(h.count as usize));
@@ -144,7 +144,7 @@ fn plan_of(rva: u32, xdata: &[u8], at: u32, h: Head) -> Plan
 
 // The plan of no record.
 fn blank() -> Plan
-    ensures { result ≡ noPlan }
+    ensures { result ≡ no_plan }
 {
     Plan {
         span: 0,
@@ -157,7 +157,7 @@ fn blank() -> Plan
 
 // A refused record.
 fn no_full(why: Refusal) -> FullOf
-    ensures { result ≡ fullAnswer (refuse why) }
+    ensures { result ≡ full_answer (refuse why) }
 {
     FullOf {
         verdict: Verdict::Refused(why),
@@ -168,7 +168,7 @@ fn no_full(why: Refusal) -> FullOf
 
 // The record of a head.
 fn full_of(rva: u32, xdata: &[u8], at: u32, h: Head) -> FullOf
-    ensures { result ≡ fullBy (lent rva xdata.now) at h }
+    ensures { result ≡ full_by (lent rva xdata.now) at h }
 {
     let len = words::code_word_bytes(h.codewords);
     FullOf {
@@ -183,8 +183,8 @@ fn full_of(rva: u32, xdata: &[u8], at: u32, h: Head) -> FullOf
 
 // The same, if its scopes have Res 0; they are lent, as the head's test of its whole record says.
 fn after_head(rva: u32, xdata: &[u8], at: u32, h: Head) -> FullOf
-    requires { (rva ≤ at) × (at + codesOffset h ≤ rva + length xdata.now) }
-    ensures { result ≡ fullAnswer (after_head (lent rva xdata.now) at h) }
+    requires { (rva ≤ at) × (at + spec_codes_offset h ≤ rva + length xdata.now) }
+    ensures { result ≡ full_answer (after_head (lent rva xdata.now) at h) }
 {
     let first = offset(rva, at) + (h.bytes as usize);
     if xdata::res_zero(xdata, first, xdata::scope_count(h) as usize) {
@@ -195,7 +195,7 @@ fn after_head(rva: u32, xdata: &[u8], at: u32, h: Head) -> FullOf
 
 // The full record at an RVA: what its head is refused for, then its scopes' Res (RULES 9.52).
 fn full(rva: u32, xdata: &[u8], at: u32) -> FullOf
-    ensures { result ≡ fullAnswer (fullPlan (lent rva xdata.now) at) }
+    ensures { result ≡ full_answer (full_plan (lent rva xdata.now) at) }
 {
     let read = xdata::head_at(rva, xdata, at);
     let verdict = read.verdict;
@@ -218,7 +218,7 @@ fn packed_epilogues(ret: u32) -> usize
 // The plan of a packed record whose second list has this index.
 fn plan_by(p: Packed, first: CodeBytes) -> Plan
     requires { Fit p }
-    ensures { result ≡ packedPlanBy p first }
+    ensures { result ≡ packed_plan_by p first }
 {
     Plan {
         span: words::halfword_bytes(p.length) as u32,
@@ -231,7 +231,7 @@ fn plan_by(p: Packed, first: CodeBytes) -> Plan
 
 // The record of an allowed word and its code bytes.
 fn packed_by(word: u32, c: CodesOf) -> PackedOf
-    ensures { result ≡ packedBy word c }
+    ensures { result ≡ spec_packed_by word c }
 {
     let bytes = c.bytes;
     PackedOf {
@@ -243,7 +243,7 @@ fn packed_by(word: u32, c: CodesOf) -> PackedOf
 
 // A refused packed record.
 fn no_packed(why: Refusal) -> PackedOf
-    ensures { result ≡ packedAnswer (refuse why) }
+    ensures { result ≡ packed_answer (refuse why) }
 {
     PackedOf {
         verdict: Verdict::Refused(why),
@@ -254,7 +254,7 @@ fn no_packed(why: Refusal) -> PackedOf
 
 // The packed record of a word: its plan and its code bytes.
 fn packed(word: u32) -> PackedOf
-    ensures { result ≡ packedAnswer (packedPlan word) }
+    ensures { result ≡ packed_answer (packed_plan word) }
 {
     let c = packed_codes::write_codes(word);
     let verdict = c.verdict;

@@ -5,9 +5,9 @@ use mathlib.Core.Path.{◌≡◌, refl}
 use mathlib.Core.List.{List, [], ◌∷◌, ◌++◌}
 use Rattle.lent.specs.Lent.{Lent, lent}
 use Rattle.lent.proofs.Bytes.{bytes_of}
-use Rattle.regions.specs.Table.{regionsOf}
+use Rattle.regions.specs.Table.{regions_of}
 use Rattle.text.specs.Text.{text}
-use Rattle.region_text.specs.RegionText.{regionsText}
+use Rattle.region_text.specs.RegionText.{regions_text}
 use Rattle.region_text.proofs.Opened.{opened}
 
 -- a record of one code word with a handler word, and what stands behind that
@@ -16,7 +16,7 @@ record-with ws = lent 0x3000 (bytes_of (0x103000A5 ∷ 0xFD04DDC7 ∷ 0x3001 ∷
 
 -- what is printed for an RVA of the code
 abbrev printed : (rva : ℕ) → Lent → List ℕ
-printed a x = regionsText a (regionsOf x 0x3000)
+printed a x = regions_text a (regions_of x 0x3000)
 
 -- the first region of the table is inside the second, and the third ends before that begins
 abbrev nested : List ℕ

@@ -1,2 +1,2 @@
 pub mod RegionText
-pub mod as_coded
+pub mod AsCoded

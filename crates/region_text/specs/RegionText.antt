@@ -9,7 +9,7 @@ use Rattle.text.specs.Text.{text, decimal, hex8}
 use Rattle.regions.specs.declared.Region.{Region}
 use Rattle.regions.specs.declared.RegionRefusal.{RegionRefusal}
 use Rattle.regions.specs.Region.{within}
-use Rattle.regions.specs.Table.{Listed, listed, denied, regionNumber}
+use Rattle.regions.specs.Table.{Listed, listed, denied, region_number}
 use Rattle.nesting.specs.Outline.{Outline, none, region, outline}
 
 -- two spaces for each level
@@ -20,19 +20,19 @@ indent n = replicate (2 * n) 0x20
 abbrev pub mark : (rva : ℕ) → Region → List ℕ
 mark a r = if within a r then text "*" else text "-"
 
-abbrev pub regionLine : (level rva : ℕ) → Region → List ℕ
-regionLine n a r =
+abbrev pub region_line : (level rva : ℕ) → Region → List ℕ
+region_line n a r =
     indent n ++ mark a r ++ text " " ++ hex8 r.begin ++ text " " ++ hex8 r.end ++ text " " ++ hex8 r.handler ++ text " " ++ hex8 r.target ++ text "\n"
 
 -- a region's line, its inner regions one level further in, and then those beside it
-unfoldable pub outlineText : (level rva : ℕ) → Outline → List ℕ
-outlineText n a none = []
-outlineText n a (region r i b) = regionLine n a r ++ outlineText (n + 1) a i ++ outlineText n a b
+unfoldable pub outline_text : (level rva : ℕ) → Outline → List ℕ
+outline_text n a none = []
+outline_text n a (region r i b) = region_line n a r ++ outline_text (n + 1) a i ++ outline_text n a b
 
 -- a refused table is one line
-abbrev pub refusedLine : RegionRefusal → List ℕ
-refusedLine r = text "  refused " ++ decimal (regionNumber r) ++ text "\n"
+abbrev pub refused_line : RegionRefusal → List ℕ
+refused_line r = text "  refused " ++ decimal (region_number r) ++ text "\n"
 
-unfoldable pub regionsText : (rva : ℕ) → Listed → List ℕ
-regionsText a (listed rs) = outlineText 1 a (outline rs)
-regionsText a (denied r) = refusedLine r
+unfoldable pub regions_text : (rva : ℕ) → Listed → List ℕ
+regions_text a (listed rs) = outline_text 1 a (outline rs)
+regions_text a (denied r) = refused_line r

@@ -1,12 +1,12 @@
 // The outline of a record's regions as text, into a lent buffer (RULES 8.15, 8.16).
 ghost use Rattle.std.specs.Prelude.{[], ◌∷◌, ◌≡◌, ◌+◌, ◌<◌, ◌≤◌, length};
 ghost use Rattle.lent.specs.Lent.{lent};
-ghost use Rattle.regions.specs.Region.{regionsFrom};
-ghost use Rattle.regions.specs.Table.{regionsOf};
+ghost use Rattle.regions.specs.Region.{regions_from};
+ghost use Rattle.regions.specs.Table.{regions_of};
 ghost use Rattle.nesting.specs.Outline.{outline};
 ghost use Rattle.text.specs.Overlay.{Laid};
-ghost use Rattle.region_text.specs.RegionText.{indent, mark, regionLine, outlineText, refusedLine, regionsText};
-ghost use Rattle.region_text.specs.as_coded.Part.{unindented, inList, PutRegion, PutList};
+ghost use Rattle.region_text.specs.RegionText.{indent, mark, region_line, outline_text, refused_line, regions_text};
+ghost use Rattle.region_text.specs.AsCoded.Part.{unindented, in_list as spec_in_list, PutRegion, PutList};
 
 use regions::{Region, RegionRefusal, RegionVerdict};
 use text::{put_addresses, put_byte, put_count, put_hex8, put_text};
@@ -53,7 +53,7 @@ fn put_words(out: &mut [u8], at: usize, rva: u32, r: Region) -> usize
 // A region's line.
 fn put_line(out: &mut [u8], at: usize, level: usize, rva: u32, r: Region) -> usize
     requires { level ≤ 64 }
-    ensures { Laid out.old at (regionLine level rva r) result out.new }
+    ensures { Laid out.old at (region_line level rva r) result out.new }
 {
     let next = put_indent(out, at, level);
     put_words(out, next, rva, r)
@@ -61,7 +61,7 @@ fn put_line(out: &mut [u8], at: usize, level: usize, rva: u32, r: Region) -> usi
 
 // Whether a region is in a list: the outermost one, or that of the regions inside a range.
 fn in_list(top: bool, low: u32, high: u32, r: Region) -> bool
-    ensures { result ≡ inList top low high r }
+    ensures { result ≡ spec_in_list top low high r }
 {
     top || (low <= r.begin && r.end <= high)
 }
@@ -131,7 +131,7 @@ fn put_list(
 // The outline of a table's regions.
 fn put_table(out: &mut [u8], at: usize, xdata: &[u8], first: usize, count: usize, rva: u32) -> usize
     requires { (first ≤ 4294967296) × (count ≤ 64) }
-    ensures { Laid out.old at (outlineText 1 rva (outline (regionsFrom xdata.now first 0 count))) result out.new }
+    ensures { Laid out.old at (outline_text 1 rva (outline (regions_from xdata.now first 0 count))) result out.new }
 {
     let mut order = [0u8; 64];
     nesting::order(xdata, first, &mut order[..count]);
@@ -153,7 +153,7 @@ fn put_table(out: &mut [u8], at: usize, xdata: &[u8], first: usize, count: usize
 
 // A refused table's line.
 fn put_refused(out: &mut [u8], at: usize, r: RegionRefusal) -> usize
-    ensures { Laid out.old at (refusedLine r) result out.new }
+    ensures { Laid out.old at (refused_line r) result out.new }
 {
     let number = regions::number(r);
     let next = put_count(out, at, b"  refused ", number as u64);
@@ -162,7 +162,7 @@ fn put_refused(out: &mut [u8], at: usize, r: RegionRefusal) -> usize
 
 // The outline of the regions of the .xdata record that word 1 of a .pdata record leads to, for the RVA of a pc; or the line of a refusal.
 pub fn put_regions(out: &mut [u8], at: usize, rva: u32, xdata: &[u8], word: u32, pc: u32) -> usize
-    ensures { Laid out.old at (regionsText pc (regionsOf (lent rva xdata.now) word)) result out.new }
+    ensures { Laid out.old at (regions_text pc (regions_of (lent rva xdata.now) word)) result out.new }
 {
     let t = regions::table(rva, xdata, word);
     let verdict = t.verdict;

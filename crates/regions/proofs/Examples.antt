@@ -8,24 +8,24 @@ use Rattle.lent.specs.Lent.{Lent, lent}
 use Rattle.lent.proofs.Bytes.{bytes_of}
 use Rattle.regions.specs.declared.Region.{Region}
 use Rattle.regions.specs.declared.RegionRefusal.TheVariants.{Record, TableOutside, Crossed}
-use Rattle.regions.specs.Region.{regionsFrom}
-use Rattle.regions.specs.Table.{Listed, listed, denied, regionsOf}
-use Rattle.regions.specs.as_coded.Table.{tableGiven, table_of}
+use Rattle.regions.specs.Region.{regions_from}
+use Rattle.regions.specs.Table.{Listed, listed, denied, regions_of}
+use Rattle.regions.specs.AsCoded.Table.{table_given, table_of}
 use Rattle.regions.proofs.Opened.{opened}
 
 -- a record at RVA 0x1000 of a function of 0x20 bytes, without scopes and with one code word; X=1 and the handler at 0x2001, or X=0
-abbrev handlerFirst : List ℕ
-handlerFirst = 0x10100010 ∷ 0x000000FF ∷ 0x00002001 ∷ []
+abbrev handler_first : List ℕ
+handler_first = 0x10100010 ∷ 0x000000FF ∷ 0x00002001 ∷ []
 
-abbrev noHandler : List ℕ
-noHandler = 0x10000010 ∷ 0x000000FF ∷ []
+abbrev no_handler : List ℕ
+no_handler = 0x10000010 ∷ 0x000000FF ∷ []
 
 -- the record and the words behind it
 abbrev behind : List ℕ → Lent
-behind ws = lent 0x1000 (bytes_of (handlerFirst ++ ws))
+behind ws = lent 0x1000 (bytes_of (handler_first ++ ws))
 
 abbrev regions : List ℕ → Listed
-regions ws = regionsOf (behind ws) 0x1000
+regions ws = regions_of (behind ws) 0x1000
 
 -- a region's four words, and the region they are
 abbrev range : (begin end : ℕ) → List ℕ
@@ -45,12 +45,12 @@ unfolding opened
 nested = refl
 
 -- where the code finds one
-found : table_of (behind (1 ∷ range 0x10 0x20)) 0x1000 ≡ tableGiven 16 1
+found : table_of (behind (1 ∷ range 0x10 0x20)) 0x1000 ≡ table_given 16 1
 unfolding opened
 found = refl
 
 -- bits 0-1 of the record's RVA do not count
-low_bits : regionsOf (behind (1 ∷ range 0x10 0x20)) 0x1003 ≡ listed (at 0 0x10 0x20 ∷ [])
+low_bits : regions_of (behind (1 ∷ range 0x10 0x20)) 0x1003 ≡ listed (at 0 0x10 0x20 ∷ [])
 unfolding opened
 low_bits = refl
 
@@ -89,7 +89,7 @@ abbrev equal : ℕ → List ℕ
 equal zero = []
 equal (suc n) = range 0x10 0x20 ++ equal n
 
-sixty-four : regions (64 ∷ equal 64) ≡ listed (regionsFrom (behind (64 ∷ equal 64)).bytes 16 0 64)
+sixty-four : regions (64 ∷ equal 64) ≡ listed (regions_from (behind (64 ∷ equal 64)).bytes 16 0 64)
 unfolding opened
 sixty-four = refl
 
@@ -107,15 +107,15 @@ unfolding opened
 count-missing = refl
 
 -- without a handler there is no table, whatever stands behind the record
-unhandled : regionsOf (lent 0x1000 (bytes_of (noHandler ++ (1 ∷ range 0x20 0x10)))) 0x1000 ≡ listed []
+unhandled : regions_of (lent 0x1000 (bytes_of (no_handler ++ (1 ∷ range 0x20 0x10)))) 0x1000 ≡ listed []
 unfolding opened
 unhandled = refl
 
 -- the record's own refusals come first: here its handler word is not lent, and there the .xdata's RVA is no multiple of 4
-record-missing : regionsOf (lent 0x1000 (bytes_of (0x10100010 ∷ 0x000000FF ∷ []))) 0x1000 ≡ denied (Record OutsideXdata)
+record-missing : regions_of (lent 0x1000 (bytes_of (0x10100010 ∷ 0x000000FF ∷ []))) 0x1000 ≡ denied (Record OutsideXdata)
 unfolding opened
 record-missing = refl
 
-record-unfit : regionsOf (lent 0x1002 (bytes_of (handlerFirst ++ (1 ∷ range 0x20 0x10)))) 0x1004 ≡ denied (Record UnfitInput)
+record-unfit : regions_of (lent 0x1002 (bytes_of (handler_first ++ (1 ∷ range 0x20 0x10)))) 0x1004 ≡ denied (Record UnfitInput)
 unfolding opened
 record-unfit = refl

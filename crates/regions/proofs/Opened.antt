@@ -1,9 +1,9 @@
 -- To unfold `opened` is to unfold every definition of this crate and of those below it: for examples that compute.
-use Rattle.xdata.specs.Xdata.{longHead, headAt, xdataSize}
-use Rattle.regions.specs.Region.{regionsFrom, clear, sound}
-use Rattle.regions.specs.Table.{regionsOf}
-use Rattle.regions.specs.as_coded.Table.{table_of}
+use Rattle.xdata.specs.Xdata.{long_head, head_at, xdata_size}
+use Rattle.regions.specs.Region.{regions_from, clear, sound}
+use Rattle.regions.specs.Table.{regions_of}
+use Rattle.regions.specs.AsCoded.Table.{table_of}
 
 unfoldable pub opened : Unit {0}
-unfolding longHead headAt xdataSize regionsFrom clear sound regionsOf table_of
+unfolding long_head head_at xdata_size regions_from clear sound regions_of table_of
 opened = tt

@@ -7,28 +7,28 @@ use mathlib.Core.List.{List, ◌∷◌}
 use lib.ListN.{length}
 use native.Mathlib.Omega.{arith}
 use Rattle.regions.specs.declared.Region.{Region}
-use Rattle.regions.specs.Region.{regionIn, regionsFrom, upright, cross, clear, sound}
+use Rattle.regions.specs.Region.{region_in, regions_from, upright, cross, clear, sound}
 
-pub rows-length : (s : List ℕ) (f n k : ℕ) → length (regionsFrom s f k n) ≡ n
-unfolding regionsFrom
+pub rows-length : (s : List ℕ) (f n k : ℕ) → length (regions_from s f k n) ≡ n
+unfolding regions_from
 rows-length s f zero k = refl
 rows-length s f (suc n) k = ap suc (rows-length s f n (k + 1))
 
 -- no region is left, or one and those behind it
-pub rows-done : (s : List ℕ) (f k n : ℕ) → n ≤ k → regionsFrom s f k (n - k) ≡ regionsFrom s f 0 0
-unfolding regionsFrom
+pub rows-done : (s : List ℕ) (f k n : ℕ) → n ≤ k → regions_from s f k (n - k) ≡ regions_from s f 0 0
+unfolding regions_from
 rows-done s f k n h = let e : n - k ≡ 0 = omega arith in rw e refl
 
-pub rows_next : (s : List ℕ) (f k n : ℕ) → k < n → regionsFrom s f k (n - k) ≡ regionIn s f k ∷ regionsFrom s f (k + 1) (n - (k + 1))
-unfolding regionsFrom
+pub rows_next : (s : List ℕ) (f k n : ℕ) → k < n → regions_from s f k (n - k) ≡ region_in s f k ∷ regions_from s f (k + 1) (n - (k + 1))
+unfolding regions_from
 rows_next s f k n h = let e : n - k ≡ suc (n - (k + 1)) = omega arith in rw e refl
 
-pub clear-done : (r : Region) (s : List ℕ) (f k n : ℕ) → n ≤ k → clear r (regionsFrom s f k (n - k)) ≡ true
-unfolding clear regionsFrom
+pub clear-done : (r : Region) (s : List ℕ) (f k n : ℕ) → n ≤ k → clear r (regions_from s f k (n - k)) ≡ true
+unfolding clear regions_from
 clear-done r s f k n h = rw (rows-done s f k n h) refl
 
-pub sound-done : (s : List ℕ) (f k n : ℕ) → n ≤ k → sound (regionsFrom s f k (n - k)) ≡ true
-unfolding sound regionsFrom
+pub sound-done : (s : List ℕ) (f k n : ℕ) → n ≤ k → sound (regions_from s f k (n - k)) ≡ true
+unfolding sound regions_from
 sound-done s f k n h = rw (rows-done s f k n h) refl
 
 -- the first of a list, by its tests
@@ -40,33 +40,33 @@ sound-cons : (r : Region) (rs : List Region) → sound (r ∷ rs) ≡ (upright r
 unfolding sound
 sound-cons r rs = refl
 
-module _ (r q : Region) (s : List ℕ) (f k n : ℕ) (h : k < n) (e : q ≡ regionIn s f k) where
-  clear_next : clear r (regionsFrom s f k (n - k)) ≡ (not (cross r q) && clear r (regionsFrom s f (k + 1) (n - (k + 1))))
+module _ (r q : Region) (s : List ℕ) (f k n : ℕ) (h : k < n) (e : q ≡ region_in s f k) where
+  clear_next : clear r (regions_from s f k (n - k)) ≡ (not (cross r q) && clear r (regions_from s f (k + 1) (n - (k + 1))))
   clear_next =
-      ap (clear r) (rows_next s f k n h ∙ ap (λ x. x ∷ regionsFrom s f (k + 1) (n - (k + 1))) (sym e))
-      ∙ clear-cons r q (regionsFrom s f (k + 1) (n - (k + 1)))
+      ap (clear r) (rows_next s f k n h ∙ ap (λ x. x ∷ regions_from s f (k + 1) (n - (k + 1))) (sym e))
+      ∙ clear-cons r q (regions_from s f (k + 1) (n - (k + 1)))
 
-  pub clear-stops : cross r q ≡ true → clear r (regionsFrom s f k (n - k)) ≡ false
+  pub clear-stops : cross r q ≡ true → clear r (regions_from s f k (n - k)) ≡ false
   clear-stops t = clear_next ∙ rw t refl
 
-  pub clear-goes-on : cross r q ≡ false → clear r (regionsFrom s f k (n - k)) ≡ clear r (regionsFrom s f (k + 1) (n - (k + 1)))
+  pub clear-goes-on : cross r q ≡ false → clear r (regions_from s f k (n - k)) ≡ clear r (regions_from s f (k + 1) (n - (k + 1)))
   clear-goes-on t = clear_next ∙ rw t refl
 
-module _ (r : Region) (s : List ℕ) (f k n : ℕ) (h : k < n) (e : r ≡ regionIn s f k) where
+module _ (r : Region) (s : List ℕ) (f k n : ℕ) (h : k < n) (e : r ≡ region_in s f k) where
   sound-next :
-      sound (regionsFrom s f k (n - k))
-      ≡ (upright r && clear r (regionsFrom s f (k + 1) (n - (k + 1))) && sound (regionsFrom s f (k + 1) (n - (k + 1))))
+      sound (regions_from s f k (n - k))
+      ≡ (upright r && clear r (regions_from s f (k + 1) (n - (k + 1))) && sound (regions_from s f (k + 1) (n - (k + 1))))
   sound-next =
-      ap sound (rows_next s f k n h ∙ ap (λ x. x ∷ regionsFrom s f (k + 1) (n - (k + 1))) (sym e))
-      ∙ sound-cons r (regionsFrom s f (k + 1) (n - (k + 1)))
+      ap sound (rows_next s f k n h ∙ ap (λ x. x ∷ regions_from s f (k + 1) (n - (k + 1))) (sym e))
+      ∙ sound-cons r (regions_from s f (k + 1) (n - (k + 1)))
 
-  pub sound-fallen : upright r ≡ false → sound (regionsFrom s f k (n - k)) ≡ false
+  pub sound-fallen : upright r ≡ false → sound (regions_from s f k (n - k)) ≡ false
   sound-fallen t = sound-next ∙ rw t refl
 
   -- by whether it crosses one behind it
-  module _ (t : upright r ≡ true) (b : Bool) (c : b ≡ clear r (regionsFrom s f (k + 1) (n - (k + 1)))) where
-    pub sound-crossed : b ≡ false → sound (regionsFrom s f k (n - k)) ≡ false
+  module _ (t : upright r ≡ true) (b : Bool) (c : b ≡ clear r (regions_from s f (k + 1) (n - (k + 1)))) where
+    pub sound-crossed : b ≡ false → sound (regions_from s f k (n - k)) ≡ false
     sound-crossed u = sound-next ∙ rw (t, sym c ∙ u) refl
 
-    pub sound-goes-on : b ≡ true → sound (regionsFrom s f k (n - k)) ≡ sound (regionsFrom s f (k + 1) (n - (k + 1)))
+    pub sound-goes-on : b ≡ true → sound (regions_from s f k (n - k)) ≡ sound (regions_from s f (k + 1) (n - (k + 1)))
     sound-goes-on u = sound-next ∙ rw (t, sym c ∙ u) refl

@@ -1,3 +1,3 @@
 pub mod Region
 pub mod Table
-pub mod as_coded
+pub mod AsCoded

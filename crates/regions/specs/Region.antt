@@ -7,17 +7,17 @@ use Rattle.words.specs.Answer.{if◌then◌else◌}
 use Rattle.regions.specs.declared.Region.{Region}
 
 -- the region of a number whose words stand from an offset on
-abbrev pub regionFrom : List ℕ → (at number : ℕ) → Region
-regionFrom s a k = record { number = k; begin = word32 s a; end = word32 s (a + 4); handler = word32 s (a + 8); target = word32 s (a + 12) }
+abbrev pub region_from : List ℕ → (at number : ℕ) → Region
+region_from s a k = record { number = k; begin = word32 s a; end = word32 s (a + 4); handler = word32 s (a + 8); target = word32 s (a + 12) }
 
 -- the region of a number, where the first one begins at an offset
-abbrev pub regionIn : List ℕ → (first k : ℕ) → Region
-regionIn s f k = regionFrom s (f + 16 * k) k
+abbrev pub region_in : List ℕ → (first k : ℕ) → Region
+region_in s f k = region_from s (f + 16 * k) k
 
 -- n regions, the first of which has this number
-unfoldable pub regionsFrom : List ℕ → (first number n : ℕ) → List Region
-regionsFrom s f k zero = []
-regionsFrom s f k (suc n) = regionIn s f k ∷ regionsFrom s f (k + 1) n
+unfoldable pub regions_from : List ℕ → (first number n : ℕ) → List Region
+regions_from s f k zero = []
+regions_from s f k (suc n) = region_in s f k ∷ regions_from s f (k + 1) n
 
 -- an RVA is in a region: begin counts, end does not (RULES 8.16)
 abbrev pub within : (rva : ℕ) → Region → Bool

@@ -1,9 +1,9 @@
 // The guarded regions of an .xdata record (RULES 2.14): the table behind the handler word. It knows no registers and no pc.
 ghost use Rattle.std.specs.Prelude.{◌≡◌, ◌+◌, ◌-◌, ◌≤◌, length};
 ghost use Rattle.lent.specs.Lent.{lent};
-ghost use Rattle.regions.specs.Region.{regionFrom, regionIn, regionsFrom, upright as uprightOf, overlaps as overlapsOf, cross as cross_of, clear, sound as soundOf};
-ghost use Rattle.regions.specs.Table.{regionNumber, tableLent};
-ghost use Rattle.regions.specs.as_coded.Table.{noTable, soundTable, tableRead, tableAfter, table_of};
+ghost use Rattle.regions.specs.Region.{region_from, region_in, regions_from, upright as upright_of, overlaps as overlaps_of, cross as cross_of, clear, sound as sound_of};
+ghost use Rattle.regions.specs.Table.{region_number, table_lent as spec_table_lent};
+ghost use Rattle.regions.specs.AsCoded.Table.{no_table as spec_no_table, sound_table as spec_sound_table, table_read as spec_table_read, table_after as spec_table_after, table_of};
 
 use words::{Refusal, Verdict};
 
@@ -42,7 +42,7 @@ pub struct TableOf {
 
 // The number of a refusal (RULES 9).
 pub fn number(r: RegionRefusal) -> u32
-    ensures { result ≡ regionNumber r }
+    ensures { result ≡ region_number r }
 {
     match r {
         RegionRefusal::Record(why) => words::number(why),
@@ -54,7 +54,7 @@ pub fn number(r: RegionRefusal) -> u32
 // The region whose four words are there, from a place on, as its caller has tested.
 fn read_in(xdata: &[u8], at: usize, number: usize) -> Region
     requires { at + 16 ≤ length xdata.now }
-    ensures { result ≡ regionFrom xdata.now at number }
+    ensures { result ≡ region_from xdata.now at number }
 {
     Region {
         number,
@@ -68,7 +68,7 @@ fn read_in(xdata: &[u8], at: usize, number: usize) -> Region
 // The same, each word by itself: those that are not there are 0.
 fn read_any(xdata: &[u8], at: usize, number: usize) -> Region
     requires { at ≤ 8589934592 }
-    ensures { result ≡ regionFrom xdata.now at number }
+    ensures { result ≡ region_from xdata.now at number }
 {
     Region {
         number,
@@ -83,7 +83,7 @@ fn read_any(xdata: &[u8], at: usize, number: usize) -> Region
 // serves its four words.
 pub fn read(xdata: &[u8], first: usize, k: u8) -> Region
     requires { first ≤ 4294967296 }
-    ensures { result ≡ regionIn xdata.now first k }
+    ensures { result ≡ region_in xdata.now first k }
 {
     let at = first + 16 * (k as usize);
     if at + 16 <= xdata.len() {
@@ -94,14 +94,14 @@ pub fn read(xdata: &[u8], first: usize, k: u8) -> Region
 
 // Begin is below end.
 fn upright(r: Region) -> bool
-    ensures { result ≡ uprightOf r }
+    ensures { result ≡ upright_of r }
 {
     r.begin < r.end
 }
 
 // The second begins inside the first and ends behind it.
 fn overlaps(r: Region, s: Region) -> bool
-    ensures { result ≡ overlapsOf r s }
+    ensures { result ≡ overlaps_of r s }
 {
     r.begin < s.begin && s.begin < r.end && r.end < s.end
 }
@@ -115,7 +115,7 @@ fn cross(r: Region, s: Region) -> bool
 // Whether this region crosses none of a table's, from a number on.
 fn clear_of(xdata: &[u8], first: usize, r: Region, from: usize, n: usize) -> bool
     requires { (first ≤ 4294967296) × (n ≤ 64) }
-    ensures { result ≡ clear r (regionsFrom xdata.now first from (n - from)) }
+    ensures { result ≡ clear r (regions_from xdata.now first from (n - from)) }
 {
     let mut k = from;
     while k < n {
@@ -130,7 +130,7 @@ fn clear_of(xdata: &[u8], first: usize, r: Region, from: usize, n: usize) -> boo
 // What 16 asks of a table of n regions. Each region is held against those behind it, so every two are.
 fn sound(xdata: &[u8], first: usize, n: usize) -> bool
     requires { (first ≤ 4294967296) × (n ≤ 64) }
-    ensures { result ≡ soundOf (regionsFrom xdata.now first 0 n) }
+    ensures { result ≡ sound_of (regions_from xdata.now first 0 n) }
 {
     let mut k = 0;
     while k < n {
@@ -148,7 +148,7 @@ fn sound(xdata: &[u8], first: usize, n: usize) -> bool
 
 // A refused table.
 fn no_table(why: RegionRefusal) -> TableOf
-    ensures { result ≡ noTable why }
+    ensures { result ≡ spec_no_table why }
 {
     TableOf {
         verdict: RegionVerdict::Refused(why),
@@ -160,7 +160,7 @@ fn no_table(why: RegionRefusal) -> TableOf
 // A table that is lent, if it is sound.
 fn sound_table(xdata: &[u8], first: usize, n: usize) -> TableOf
     requires { (first ≤ 4294967296) × (n ≤ 64) }
-    ensures { result ≡ soundTable xdata.now first n }
+    ensures { result ≡ spec_sound_table xdata.now first n }
 {
     if sound(xdata, first, n) {
         return TableOf {
@@ -175,7 +175,7 @@ fn sound_table(xdata: &[u8], first: usize, n: usize) -> TableOf
 // What 15 asks. An .xdata that passes 1 is no longer than that, so an address in it has room for what is added to it.
 fn table_lent(rva: u32, xdata: &[u8], at: u64) -> bool
     requires { length xdata.now ≤ 4294967296 }
-    ensures { result ≡ tableLent (lent rva xdata.now) at }
+    ensures { result ≡ spec_table_lent (lent rva xdata.now) at }
 {
     if !lent::holds(rva, xdata, at, 4) {
         return false;
@@ -187,7 +187,7 @@ fn table_lent(rva: u32, xdata: &[u8], at: u64) -> bool
 // The table whose count word stands at an RVA.
 fn table_read(rva: u32, xdata: &[u8], at: u64) -> TableOf
     requires { length xdata.now ≤ 4294967296 }
-    ensures { result ≡ tableRead (lent rva xdata.now) at }
+    ensures { result ≡ spec_table_read (lent rva xdata.now) at }
 {
     if !table_lent(rva, xdata, at) {
         return no_table(RegionRefusal::TableOutside);
@@ -199,7 +199,7 @@ fn table_read(rva: u32, xdata: &[u8], at: u64) -> TableOf
 // The table behind a record of so many bytes; there is none without a handler word.
 fn table_after(rva: u32, xdata: &[u8], at: u32, bytes: u32) -> TableOf
     requires { length xdata.now ≤ 4294967296 }
-    ensures { result ≡ tableAfter (lent rva xdata.now) at bytes }
+    ensures { result ≡ spec_table_after (lent rva xdata.now) at bytes }
 {
     if xdata::handled(lent::word_at(rva, xdata, at as u64)) {
         return table_read(rva, xdata, (at as u64) + (bytes as u64));

@@ -1,2 +1,2 @@
 pub mod Report
-pub mod as_coded
+pub mod AsCoded

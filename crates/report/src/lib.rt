@@ -2,8 +2,8 @@
 ghost use Rattle.std.specs.Prelude.{◌≡◌, ◌≤◌, length, take};
 ghost use Rattle.words.specs.declared.Refusal.TheVariants.{UnfitReport};
 ghost use Rattle.lent.specs.Parts.{same};
-ghost use Rattle.report.specs.Report.{mark, headBytes, words32, words64, regs_of};
-ghost use Rattle.report.specs.as_coded.Parts.{parts, noParts, Lie};
+ghost use Rattle.report.specs.Report.{mark, head_bytes, words32, words64, regs_of};
+ghost use Rattle.report.specs.AsCoded.Parts.{parts, no_parts, Lie};
 
 use lent::{word32, word32_in, word64_in};
 use machine::Regs;
@@ -39,7 +39,7 @@ fn marked(file: &[u8]) -> bool
 
 // r0-r12. These three functions read a head that is there: `read_report` has tested the length.
 fn integers(file: &[u8]) -> [u32; 13]
-    requires { headBytes ≤ length file.now }
+    requires { head_bytes ≤ length file.now }
     ensures { result ≡ words32 file.now 32 13 }
 {
     let mut r = [0u32; 13];
@@ -54,7 +54,7 @@ fn integers(file: &[u8]) -> [u32; 13]
 
 // d0-d31.
 fn doubles(file: &[u8]) -> [u64; 32]
-    requires { headBytes ≤ length file.now }
+    requires { head_bytes ≤ length file.now }
     ensures { result ≡ words64 file.now 96 32 }
 {
     let mut d = [0u64; 32];
@@ -68,7 +68,7 @@ fn doubles(file: &[u8]) -> [u64; 32]
 }
 
 fn registers(file: &[u8]) -> Regs
-    requires { headBytes ≤ length file.now }
+    requires { head_bytes ≤ length file.now }
     ensures { result ≡ regs_of file.now }
 {
     let r = integers(file);
@@ -84,7 +84,7 @@ fn registers(file: &[u8]) -> Regs
 
 // Refusal 14, and nothing else.
 fn unfit() -> Parts
-    ensures { result ≡ noParts UnfitReport }
+    ensures { result ≡ no_parts UnfitReport }
 {
     let regs = Regs {
         r: [0; 13],

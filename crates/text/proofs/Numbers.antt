@@ -12,7 +12,7 @@ use native.Mathlib.Nat.{pow-suc}
 use native.Mathlib.Numerals.{sub-one}
 use native.Mathlib.Omega.{arith}
 use Rattle.words.specs.Answer.{if◌then◌else◌}
-use Rattle.text.specs.Text.{digit, digits, decimalLength, decimal, hex8, numbered}
+use Rattle.text.specs.Text.{digit, digits, decimal_length, decimal, hex8, numbered}
 
 -- what follows the digits
 pub digits_append : (b n v : ℕ) (rest : List ℕ) → digits b n v rest ≡ digits b n v [] ++ rest
@@ -46,57 +46,57 @@ digits-length b zero v rest = omega arith
 digits-length b (suc n) v rest = let e = digits-length b n (v / b) (digit (v % b) ∷ rest) in omega arith
 
 -- how many digits: none left to look at, one, and one more than its tenth has
-pub decimal-none : (n v : ℕ) → n ≡ 0 → 1 ≡ decimalLength n v
-unfolding decimalLength
+pub decimal-none : (n v : ℕ) → n ≡ 0 → 1 ≡ decimal_length n v
+unfolding decimal_length
 decimal-none n v e = rw e refl
 
-pub decimal-one : (n v : ℕ) → v < 10 → 1 ≡ decimalLength n v
-unfolding decimalLength
+pub decimal-one : (n v : ℕ) → v < 10 → 1 ≡ decimal_length n v
+unfolding decimal_length
 decimal-one zero v h = refl
 decimal-one (suc n) v h = rw (lt-ltb v 10 h) refl
 
-pub decimal-more : (n v : ℕ) {r : ℕ} → 0 < n → 10 ≤ v → r ≡ decimalLength (n - 1) (v / 10) → 1 + r ≡ decimalLength n v
-unfolding decimalLength
+pub decimal-more : (n v : ℕ) {r : ℕ} → 0 < n → 10 ≤ v → r ≡ decimal_length (n - 1) (v / 10) → 1 + r ≡ decimal_length n v
+unfolding decimal_length
 decimal-more zero v p h e = absurd (omega arith)
-decimal-more (suc n) v {r} p h e = rw (le-ltb v 10 h) (let q : r ≡ decimalLength n (v / 10) = rw sub-one at e in omega arith)
+decimal-more (suc n) v {r} p h e = rw (le-ltb v 10 h) (let q : r ≡ decimal_length n (v / 10) = rw sub-one at e in omega arith)
 
-pub decimal-two : (v : ℕ) → 10 ≤ v → v < 100 → 2 ≡ decimalLength 20 v
+pub decimal-two : (v : ℕ) → 10 ≤ v → v < 100 → 2 ≡ decimal_length 20 v
 decimal-two v p h = decimal-more 20 v (omega arith) p (decimal-one 19 (v / 10) (omega arith))
 
-pub decimal-three : (v : ℕ) → 100 ≤ v → v < 1000 → 3 ≡ decimalLength 20 v
+pub decimal-three : (v : ℕ) → 100 ≤ v → v < 1000 → 3 ≡ decimal_length 20 v
 decimal-three v p h =
     decimal-more 20 v (omega arith) (omega arith)
     (decimal-more 19 (v / 10) (omega arith) (omega arith) (decimal-one 18 (v / 10 / 10) (omega arith)))
 
 -- a decimal number has at most 21 digits, and at most k + 1 where it is below 10 ^ (k + 1)
-limit : (n v : ℕ) → decimalLength n v ≤ suc n
-unfolding decimalLength
+limit : (n v : ℕ) → decimal_length n v ≤ suc n
+unfolding decimal_length
 limit zero v = omega arith
 limit (suc n) v = go (ltb v 10) (limit n (v / 10))
   where
-    go : (t : Bool) → decimalLength n (v / 10) ≤ suc n → (if t then 1 else suc (decimalLength n (v / 10))) ≤ suc (suc n)
+    go : (t : Bool) → decimal_length n (v / 10) ≤ suc n → (if t then 1 else suc (decimal_length n (v / 10))) ≤ suc (suc n)
     go true h = omega arith
     go false h = omega arith
 
-small : (n k v : ℕ) → v < 10 ^ suc k → decimalLength n v ≤ suc k
-unfolding decimalLength
+small : (n k v : ℕ) → v < 10 ^ suc k → decimal_length n v ≤ suc k
+unfolding decimal_length
 small zero k v h = omega arith
 small (suc n) zero v h = go (ltb v 10) refl
   where
-    go : (t : Bool) → ltb v 10 ≡ t → (if t then 1 else suc (decimalLength n (v / 10))) ≤ 1
+    go : (t : Bool) → ltb v 10 ≡ t → (if t then 1 else suc (decimal_length n (v / 10))) ≤ 1
     go true e = omega arith
     go false e = absurd (omega (arith, ltb-false v 10 e))
 small (suc n) (suc k) v h = go (ltb v 10) (small n k (v / 10) (omega (arith, pow-suc 10 (suc k))))
   where
-    go : (t : Bool) → decimalLength n (v / 10) ≤ suc k → (if t then 1 else suc (decimalLength n (v / 10))) ≤ suc (suc k)
+    go : (t : Bool) → decimal_length n (v / 10) ≤ suc k → (if t then 1 else suc (decimal_length n (v / 10))) ≤ suc (suc k)
     go true i = omega arith
     go false i = omega arith
 
 pub decimal-limit : (v : ℕ) → length (decimal v) ≤ 21
-decimal-limit v = omega (arith, digits-length 10 (decimalLength 20 v) v [], limit 20 v)
+decimal-limit v = omega (arith, digits-length 10 (decimal_length 20 v) v [], limit 20 v)
 
 pub decimal-small : (v : ℕ) → v < 1000 → length (decimal v) ≤ 3
-decimal-small v h = omega (arith, digits-length 10 (decimalLength 20 v) v [], small 20 2 v h)
+decimal-small v h = omega (arith, digits-length 10 (decimal_length 20 v) v [], small 20 2 v h)
 
 pub hex8-length : (v : ℕ) → length (hex8 v) ≡ 8
 hex8-length v = omega (arith, digits-length 16 8 v [])

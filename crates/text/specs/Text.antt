@@ -19,12 +19,12 @@ digits b zero v rest = rest
 digits b (suc n) v rest = digits b n (v / b) (digit (v % b) ∷ rest)
 
 -- how many decimal digits a number below 10 ^ limit has
-unfoldable pub decimalLength : (limit value : ℕ) → ℕ
-decimalLength zero v = 1
-decimalLength (suc n) v = let more = suc (decimalLength n (v / 10)) in if ltb v 10 then 1 else more
+unfoldable pub decimal_length : (limit value : ℕ) → ℕ
+decimal_length zero v = 1
+decimal_length (suc n) v = let more = suc (decimal_length n (v / 10)) in if ltb v 10 then 1 else more
 
 abbrev pub decimal : ℕ → List ℕ
-decimal v = digits 10 (decimalLength 20 v) v []
+decimal v = digits 10 (decimal_length 20 v) v []
 
 abbrev pub hex8 : ℕ → List ℕ
 hex8 v = digits 16 8 v []

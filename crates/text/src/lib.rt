@@ -1,7 +1,7 @@
 // Text into a lent buffer, which is never overrun (RULES 8.7): what fits is written, and the place counts on, so that the last place
 // tells how much room was needed. Each function takes the place to write at and gives the place after. No public one asks anything of its caller.
 ghost use Rattle.std.specs.Prelude.{[], ◌∷◌, ◌++◌, ◌≡◌, ◌+◌, ◌%◌, ◌<◌, ◌≤◌, length};
-ghost use Rattle.text.specs.Text.{digit as digitOf, digits, decimalLength, decimal, hex8, hex16, addresses};
+ghost use Rattle.text.specs.Text.{digit as digit_of, digits, decimal_length as spec_decimal_length, decimal, hex8, hex16, addresses};
 ghost use Rattle.text.specs.Overlay.{overlay, Laid};
 
 // One byte.
@@ -66,14 +66,14 @@ pub fn put_word(out: &mut [u8], at: usize, s: &[u8], after: u8) -> usize
 // '0'-'9', 'a'-'f'.
 fn digit(d: u64) -> u8
     requires { d < 16 }
-    ensures { result ≡ digitOf d }
+    ensures { result ≡ digit_of d }
 {
     if d < 10 { 48 + d as u8 } else { 87 + d as u8 }
 }
 
 // The last decimal digit of a value.
 fn put_last(out: &mut [u8], at: usize, value: u64) -> usize
-    ensures { Laid out.old at (digitOf (value % 10) ∷ []) result out.new }
+    ensures { Laid out.old at (digit_of (value % 10) ∷ []) result out.new }
 {
     put_byte(out, at, digit(value % 10))
 }
@@ -173,7 +173,7 @@ pub fn put_addresses(out: &mut [u8], at: usize, pc: u32, sp: u32) -> usize
 // How many decimal digits a number below 10 ^ limit has.
 fn decimal_length(limit: usize, value: u64) -> usize
     requires { limit < 64 }
-    ensures { (result ≡ decimalLength limit value) × (result ≤ limit + 1) }
+    ensures { (result ≡ spec_decimal_length limit value) × (result ≤ limit + 1) }
 {
     if limit == 0 {
         return 1;

@@ -12,7 +12,7 @@ use native.Mathlib.Omega.{arith}
 use borrow.Author.Tests.{eqb-true, eq-eqb}
 use Rattle.words.specs.Answer.{if◌then◌else◌}
 use Rattle.words.proofs.Tests.{T-both}
-use Rattle.thumb.specs.Rows.{Row, rows16, rowsMore, rows32, isFor}
+use Rattle.thumb.specs.Rows.{Row, rows16, rows_more, rows32, is_for}
 
 -- two rows whose values differ at a bit that both masks have
 abbrev pub apart : Row → Row → Bool
@@ -36,7 +36,7 @@ unfolding rows16
 apart-16 = tt
 
 apart-32 : T (each (λ r s. apart r s || nested r s) rows32)
-unfolding rows32 rowsMore
+unfolding rows32 rows_more
 apart-32 = tt
 
 -- a digit of three numbers
@@ -56,7 +56,7 @@ swap n =
     n
 
 -- a number in two rows has the bits of both values where both masks have ones
-pub not-in-both : (r s : Row) (w : ℕ) → T (apart r s) → isFor r w ≡ true → isFor s w ≡ true → ⊥
+pub not-in-both : (r s : Row) (w : ℕ) → T (apart r s) → is_for r w ≡ true → is_for s w ≡ true → ⊥
 not-in-both r s w t f g =
     let a = eqb-true (bit_and w r.mask) r.value f in
     let b = eqb-true (bit_and w s.mask) s.value g in
@@ -64,30 +64,30 @@ not-in-both r s w t f g =
     rw (eq-eqb _ _ e) at t
 
 -- how many rows are for a number
-abbrev pub rowsFor : List Row → ℕ → ℕ
-rowsFor [] w = 0
-rowsFor (r ∷ rs) w = (if isFor r w then 1 else 0) + rowsFor rs w
+abbrev pub rows_for : List Row → ℕ → ℕ
+rows_for [] w = 0
+rows_for (r ∷ rs) w = (if is_for r w then 1 else 0) + rows_for rs w
 
-none_beside : (r : Row) (rs : List Row) (w : ℕ) → T (beside apart r rs) → isFor r w ≡ true → rowsFor rs w ≡ 0
+none_beside : (r : Row) (rs : List Row) (w : ℕ) → T (beside apart r rs) → is_for r w ≡ true → rows_for rs w ≡ 0
 none_beside r [] w t f = refl
 none_beside r (s ∷ ss) w t f =
     let p = T-both (apart r s) (beside apart r ss) t in
-    go (isFor s w) refl p.0 (none_beside r ss w p.1 f)
+    go (is_for s w) refl p.0 (none_beside r ss w p.1 f)
   where
-    go : (b : Bool) → isFor s w ≡ b → T (apart r s) → rowsFor ss w ≡ 0 → (if b then 1 else 0) + rowsFor ss w ≡ 0
+    go : (b : Bool) → is_for s w ≡ b → T (apart r s) → rows_for ss w ≡ 0 → (if b then 1 else 0) + rows_for ss w ≡ 0
     go true e a n = absurd (not-in-both r s w a f e)
     go false e a n = omega arith
 
 -- where each two are apart, there is one at most
-pub one-row : (rs : List Row) (w : ℕ) → T (each apart rs) → rowsFor rs w ≤ 1
+pub one-row : (rs : List Row) (w : ℕ) → T (each apart rs) → rows_for rs w ≤ 1
 one-row [] w t = omega arith
 one-row (r ∷ rs) w t =
     let p = T-both (beside apart r rs) (each apart rs) t in
-    go (isFor r w) refl p.0 (one-row rs w p.1)
+    go (is_for r w) refl p.0 (one-row rs w p.1)
   where
-    go : (b : Bool) → isFor r w ≡ b → T (beside apart r rs) → rowsFor rs w ≤ 1 → (if b then 1 else 0) + rowsFor rs w ≤ 1
+    go : (b : Bool) → is_for r w ≡ b → T (beside apart r rs) → rows_for rs w ≤ 1 → (if b then 1 else 0) + rows_for rs w ≤ 1
     go true e a n = omega (arith, none_beside r rs w a e)
     go false e a n = omega arith
 
-one-row-16 : (h : ℕ) → rowsFor rows16 h ≤ 1
+one-row-16 : (h : ℕ) → rows_for rows16 h ≤ 1
 one-row-16 h = one-row rows16 h apart-16

@@ -7,7 +7,7 @@ use borrow.Author.Tests.{leb-true}
 use Rattle.words.specs.Bits.{bits}
 use Rattle.words.specs.Answer.{if◌then◌else◌}
 use Rattle.words.proofs.Tests.{both}
-use Rattle.thumb.specs.Rows.{count, someD}
+use Rattle.thumb.specs.Rows.{count, some_d}
 use Rattle.thumb.specs.declared.Action.{Action}
 use Rattle.thumb.specs.declared.Action.TheVariants.{Other}
 
@@ -19,9 +19,9 @@ pub more : (list n : ℕ) → count list (suc n) ≡ count list n + bits n 1 lis
 unfolding count
 more l n = refl
 
-pub one-d : (s n : ℕ) → someD s n ≡ true → 1 ≤ n
+pub one-d : (s n : ℕ) → some_d s n ≡ true → 1 ≤ n
 one-d s n h = leb-true 1 n (both _ _ (both _ _ h).0).0
 
 -- what is done to them, from the first to the last
 abbrev pub of_some : (ℕ → ℕ → Action) → (s n : ℕ) → Action
-of_some f s n = if someD s n then f s (s + n - 1) else Other
+of_some f s n = if some_d s n then f s (s + n - 1) else Other

@@ -8,7 +8,7 @@ use Rattle.words.specs.Units.{halfwords}
 use Rattle.thumb.specs.declared.Action.{Action}
 use Rattle.thumb.specs.declared.Action.TheVariants.{Push, Pop, Vpush, Vpop, SubSp, AddSp, Mov, Store, Load, Bx, Branch, Other}
 use Rattle.thumb.specs.declared.Instruction.{Instruction}
-use Rattle.thumb.specs.Instruction.{noInstruction, instructionAt}
+use Rattle.thumb.specs.Instruction.{no_instruction, instruction_at}
 use Rattle.thumb.proofs.Opened.{opened}
 
 -- halfwords as bytes, and the instruction that they are
@@ -17,10 +17,10 @@ bytes_of [] = []
 bytes_of (h ∷ hs) = bits 0 8 h ∷ bits 8 8 h ∷ bytes_of hs
 
 abbrev of : ℕ → Instruction
-of h = instructionAt (bytes_of (h ∷ [])) 0
+of h = instruction_at (bytes_of (h ∷ [])) 0
 
 abbrev of2 : ℕ → ℕ → Instruction
-of2 h k = instructionAt (bytes_of (h ∷ k ∷ [])) 0
+of2 h k = instruction_at (bytes_of (h ∷ k ∷ [])) 0
 
 abbrev short : Action → Instruction
 short a = record { action = a; size = halfwords 1 }
@@ -122,10 +122,10 @@ others = (refl, refl, refl, refl, refl, refl)
 
 -- at an offset; half an instruction, half a halfword, nothing, and an offset past the end
 places :
-    (instructionAt (bytes_of (0xB082 ∷ 0x4770 ∷ [])) 2 ≡ short (Bx 14))
-    × (of 0xE92D ≡ noInstruction)
-    × (instructionAt (0xF0 ∷ []) 0 ≡ noInstruction)
-    × (instructionAt [] 0 ≡ noInstruction)
-    × (instructionAt (bytes_of (0x4770 ∷ [])) 4 ≡ noInstruction)
+    (instruction_at (bytes_of (0xB082 ∷ 0x4770 ∷ [])) 2 ≡ short (Bx 14))
+    × (of 0xE92D ≡ no_instruction)
+    × (instruction_at (0xF0 ∷ []) 0 ≡ no_instruction)
+    × (instruction_at [] 0 ≡ no_instruction)
+    × (instruction_at (bytes_of (0x4770 ∷ [])) 4 ≡ no_instruction)
 unfolding opened
 places = (refl, refl, refl, refl, refl)

@@ -5,13 +5,13 @@ use mathlib.Core.Path.{◌≡◌, sym, ◌∙◌}
 use mathlib.Core.Bool.{Bool, true, false}
 use mathlib.Core.List.{List, ◌∷◌}
 use Rattle.words.proofs.Tests.{if-true, if-false}
-use Rattle.thumb.specs.Rows.{Row, isFor, actionIn}
+use Rattle.thumb.specs.Rows.{Row, is_for, action_in}
 
-module _ (r : Row) (rs : List Row) (w : ℕ) {t : Bool} (e : t ≡ isFor r w) where
-  pub hit : t ≡ true → r.means w ≡ actionIn (r ∷ rs) w
-  unfolding actionIn
+module _ (r : Row) (rs : List Row) (w : ℕ) {t : Bool} (e : t ≡ is_for r w) where
+  pub hit : t ≡ true → r.means w ≡ action_in (r ∷ rs) w
+  unfolding action_in
   hit h = if-true _ _ (sym e ∙ h)
 
-  pub miss : t ≡ false → actionIn rs w ≡ actionIn (r ∷ rs) w
-  unfolding actionIn
+  pub miss : t ≡ false → action_in rs w ≡ action_in (r ∷ rs) w
+  unfolding action_in
   miss h = if-false _ _ (sym e ∙ h)

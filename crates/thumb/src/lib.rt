@@ -5,7 +5,7 @@ ghost use Rattle.std.specs.Int.Bits.{bit_and};
 ghost use Rattle.lent.specs.Little.{word16};
 ghost use Rattle.thumb.specs.Immediate as I;
 ghost use Rattle.thumb.specs.Rows as R;
-ghost use Rattle.thumb.specs.Instruction.{noInstruction, instructionAt};
+ghost use Rattle.thumb.specs.Instruction.{no_instruction, instruction_at};
 
 use words::{Halfwords, bit, bits};
 
@@ -15,7 +15,7 @@ use words::{Halfwords, bit, bits};
 pub enum Action {
     Push(u32),
     Pop(u32),
-    // dS to dE are pushed, or popped
+    // d_s to d_e are pushed, or popped
     Vpush(u32, u32),
     Vpop(u32, u32),
     // SP falls, or rises
@@ -129,7 +129,7 @@ fn rt(w: u32) -> u32
 
 // PUSH T3: SP and PC are unpredictable.
 fn push_one(w: u32) -> Action
-    ensures { result ≡ R.pushT3 w }
+    ensures { result ≡ R.push_t3 w }
 {
     let t = rt(w);
     if t == 13 || t == 15 {
@@ -140,7 +140,7 @@ fn push_one(w: u32) -> Action
 
 // POP T3: SP is unpredictable.
 fn pop_one(w: u32) -> Action
-    ensures { result ≡ R.popT3 w }
+    ensures { result ≡ R.pop_t3 w }
 {
     let t = rt(w);
     if t == 13 {
@@ -151,7 +151,7 @@ fn pop_one(w: u32) -> Action
 
 // SUB (SP minus immediate) T2.
 fn sub_modified(w: u32) -> Action
-    ensures { result ≡ R.subT2 w }
+    ensures { result ≡ R.sub_t2 w }
 {
     let i = imm12(w);
     if unpredictable(i) {
@@ -162,7 +162,7 @@ fn sub_modified(w: u32) -> Action
 
 // ADD (SP plus immediate) T3.
 fn add_modified(w: u32) -> Action
-    ensures { result ≡ R.addT3 w }
+    ensures { result ≡ R.add_t3 w }
 {
     let i = imm12(w);
     if unpredictable(i) {
@@ -173,7 +173,7 @@ fn add_modified(w: u32) -> Action
 
 // D:Vd, the first of the d registers.
 fn first_d(w: u32) -> u32
-    ensures { (result ≡ R.firstD w) × (result < 32) }
+    ensures { (result ≡ R.spec_first_d w) × (result < 32) }
 {
     bits(w, 12, 4) + 16 * bits(w, 22, 1)
 }
@@ -181,14 +181,14 @@ fn first_d(w: u32) -> u32
 // Whether there are n d registers from number s up, 1 to 16.
 fn some_d(s: u32, n: u32) -> bool
     requires { (s < 32) × (n < 128) }
-    ensures { result ≡ R.someD s n }
+    ensures { result ≡ R.spec_some_d s n }
 {
     1 <= n && n <= 16 && s + n <= 32
 }
 
 // VPUSH T1.
 fn vpush(w: u32) -> Action
-    ensures { result ≡ R.vpushT1 w }
+    ensures { result ≡ R.vpush_t1 w }
 {
     let s = first_d(w);
     let n = bits(w, 1, 7);
@@ -200,7 +200,7 @@ fn vpush(w: u32) -> Action
 
 // VPOP T1.
 fn vpop(w: u32) -> Action
-    ensures { result ≡ R.vpopT1 w }
+    ensures { result ≡ R.vpop_t1 w }
 {
     let s = first_d(w);
     let n = bits(w, 1, 7);
@@ -212,7 +212,7 @@ fn vpop(w: u32) -> Action
 
 // STR (immediate) T4: SP and PC are unpredictable.
 fn store(w: u32) -> Action
-    ensures { result ≡ R.strT4 w }
+    ensures { result ≡ R.str_t4 w }
 {
     let t = rt(w);
     if t == 13 || t == 15 {
@@ -223,7 +223,7 @@ fn store(w: u32) -> Action
 
 // LDR (immediate) T4: SP is unpredictable.
 fn load(w: u32) -> Action
-    ensures { result ≡ R.ldrT4 w }
+    ensures { result ≡ R.ldr_t4 w }
 {
     let t = rt(w);
     if t == 13 {
@@ -241,7 +241,7 @@ fn has(w: u32, mask: u32, value: u32) -> bool
 
 // The instructions of 16 bits.
 pub fn narrow(h: u32) -> Action
-    ensures { result ≡ R.actionIn R.rows16 h }
+    ensures { result ≡ R.action_in R.rows16 h }
 {
     // PUSH T1
     if has(h, 0xFE00, 0xB400) {
@@ -272,7 +272,7 @@ pub fn narrow(h: u32) -> Action
 
 // Those of 32 bits but for pushes, pops and amounts.
 fn wide_more(w: u32) -> Action
-    ensures { result ≡ R.actionIn R.rowsMore w }
+    ensures { result ≡ R.action_in R.rows_more w }
 {
     // VPUSH T1
     if has(w, 0xFFBF0F01, 0xED2D0B00) {
@@ -305,7 +305,7 @@ fn wide_more(w: u32) -> Action
 
 // The instructions of 32 bits, as one number, the first halfword highest.
 pub fn wide(w: u32) -> Action
-    ensures { result ≡ R.actionIn R.rows32 w }
+    ensures { result ≡ R.action_in R.rows32 w }
 {
     // PUSH T2
     if has(w, 0xFFFFA000, 0xE92D0000) {
@@ -357,7 +357,7 @@ fn halfword(code: &[u8], at: usize) -> u32
 
 // Where not all halfwords of an instruction are there.
 fn none() -> Instruction
-    ensures { result ≡ noInstruction }
+    ensures { result ≡ no_instruction }
 {
     Instruction {
         action: Action::Other,
@@ -367,7 +367,7 @@ fn none() -> Instruction
 
 // The instruction at an offset of a function's bytes.
 pub fn read_at(code: &[u8], at: usize) -> Instruction
-    ensures { result ≡ instructionAt code.now at }
+    ensures { result ≡ instruction_at code.now at }
 {
     let n = code.len();
     if n <= at || n - at < 2 {

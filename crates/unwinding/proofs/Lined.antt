@@ -1,4 +1,4 @@
--- Refusal 7 in one pass (specs/as_coded/Lined.antt) is what comparing all pairs comes to.
+-- Refusal 7 in one pass (specs/AsCoded/Lined.antt) is what comparing all pairs comes to.
 -- Assumes nothing.
 use Prim.Native.Nat.{ℕ, ◌+◌, ◌≤◌, ◌<◌, min, max}
 use mathlib.Core.Path.{◌≡◌, refl, sym, ap, subst}
@@ -9,8 +9,8 @@ use native.Mathlib.Omega.{arith}
 use borrow.Author.Tests.{leb-true, leb-false}
 use Rattle.words.specs.Answer.{if◌then◌else◌}
 use Rattle.words.proofs.Tests.{T-both as both, T_and as and, T-same as same}
-use Rattle.unwinding.specs.as_coded.Lined.{empty, reachOf, next, lined}
-use Rattle.unwinding.specs.View.{EpilogueOf, Stretch, stretch, shared, inside, apart, allApart, ascending, fits}
+use Rattle.unwinding.specs.AsCoded.Lined.{empty, reach_of, next, lined}
+use Rattle.unwinding.specs.View.{EpilogueOf, Stretch, stretch, shared, inside, apart, all_apart, ascending, fits}
 
 -- ---- what each part says of a stretch and those after it
 -- no start is below f, and they ascend
@@ -85,12 +85,12 @@ record Parts (span f r : ℕ) (ss : List Stretch) : Type 0 where
   within : T (inside span ss)
   above : Above f ss
   clear : Clear r ss
-  apart' : T (allApart ss)
+  apart' : T (all_apart ss)
 
 parts : (span f r : ℕ) (ss : List Stretch) → T (lined span f r ss) → Parts span f r ss
 parts span f r [] t = record { within = tt; above = tt; clear = tt; apart' = tt }
 parts span f r (a ∷ rest) t =
-    let w = both (next span f r a) (lined span (a.from + 1) (reachOf r a) rest) t in
+    let w = both (next span f r a) (lined span (a.from + 1) (reach_of r a) rest) t in
     let v = both (leb f a.from && leb a.to span) (empty a || leb r a.from) w.0 in
     let u = both (leb f a.from) (leb a.to span) v.0 in
     go (empty a) refl (leb→le _ _ u.0) u.1 v.1 w.1 (λ q. parts span (a.from + 1) q rest)
@@ -102,23 +102,23 @@ parts span f r (a ∷ rest) t =
     go true e low high free l ih =
         let p = ih r l in
         let h : a.to ≤ a.from = leb-true _ _ e in
-        record { within = and (leb a.to span) (inside span rest) high p.within; above = (low, p.above); clear = ((λ z. absurd (omega arith)), p.clear); apart' = and (apart a rest) (allApart rest) (apart-empty a rest h) p.apart' }
+        record { within = and (leb a.to span) (inside span rest) high p.within; above = (low, p.above); clear = ((λ z. absurd (omega arith)), p.clear); apart' = and (apart a rest) (all_apart rest) (apart-empty a rest h) p.apart' }
     go false e low high free l ih =
         let p = ih a.to l in
         let h : a.from < a.to = leb-false _ _ e in
         let g : r ≤ a.from = leb→le _ _ free in
         let w : Above a.from rest = above-less a.from (a.from + 1) rest (omega arith) p.above in
-        record { within = and (leb a.to span) (inside span rest) high p.within; above = (low, p.above); clear = ((λ z. g), clear-less r a.to rest (omega arith) p.clear); apart' = and (apart a rest) (allApart rest) (apart_of a rest w p.clear) p.apart' }
+        record { within = and (leb a.to span) (inside span rest) high p.within; above = (low, p.above); clear = ((λ z. g), clear-less r a.to rest (omega arith) p.clear); apart' = and (apart a rest) (all_apart rest) (apart_of a rest w p.clear) p.apart' }
 
 lined-of : (span f r : ℕ) (ss : List Stretch) → Parts span f r ss → T (lined span f r ss)
 lined-of span f r [] p = tt
 lined-of span f r (a ∷ rest) p =
     let i = both (leb a.to span) (inside span rest) p.within in
-    let d = both (apart a rest) (allApart rest) p.apart' in
+    let d = both (apart a rest) (all_apart rest) p.apart' in
     go (empty a) refl i.0 i.1 d.0 d.1 (λ q s. lined-of span (a.from + 1) q rest s)
   where
     go :
-        (x : Bool) → empty a ≡ x → T (leb a.to span) → T (inside span rest) → T (apart a rest) → T (allApart rest)
+        (x : Bool) → empty a ≡ x → T (leb a.to span) → T (inside span rest) → T (apart a rest) → T (all_apart rest)
         → ((q : ℕ) → Parts span (a.from + 1) q rest → T (lined span (a.from + 1) q rest))
         → T ((leb f a.from && leb a.to span && (x || leb r a.from)) && lined span (a.from + 1) (if x then r else a.to) rest)
     go true e high ins ap all ih =
@@ -148,10 +148,10 @@ fits-lined span p es = same (fits span p es) (leb p span && lined span 0 p ss) t
 
     there : T (fits span p es) → T (leb p span && lined span 0 p ss)
     there t =
-        let w = both (inside span (front ∷ ss) && ascending (map (λ e. e.start) es)) (allApart (front ∷ ss)) t in
+        let w = both (inside span (front ∷ ss) && ascending (map (λ e. e.start) es)) (all_apart (front ∷ ss)) t in
         let v = both (inside span (front ∷ ss)) (ascending (map (λ e. e.start) es)) w.0 in
         let u = both (leb p span) (inside span ss) v.0 in
-        let d = both (apart front ss) (allApart ss) w.1 in
+        let d = both (apart front ss) (all_apart ss) w.1 in
         let ab : Above 0 ss = above-0 ss (subst (λ l. T (ascending l)) (same-starts es) v.1) in
         and (leb p span) (lined span 0 p ss) u.0 (lined-of span 0 p ss (record { within = u.1; above = ab; clear = clear ab d.0; apart' = d.1 }))
       where
@@ -166,6 +166,6 @@ fits-lined span p es = same (fits span p es) (leb p span && lined span 0 p ss) t
     back t =
         let w = both (leb p span) (lined span 0 p ss) t in
         let q = parts span 0 p ss w.1 in
-        and (inside span (front ∷ ss) && ascending (map (λ e. e.start) es)) (allApart (front ∷ ss))
+        and (inside span (front ∷ ss) && ascending (map (λ e. e.start) es)) (all_apart (front ∷ ss))
         (and (inside span (front ∷ ss)) (ascending (map (λ e. e.start) es)) (and (leb p span) (inside span ss) w.0 q.within) (subst (λ l. T (ascending l)) (sym (same-starts es)) (ascending-0 ss q.above)))
-        (and (apart front ss) (allApart ss) (apart_of front ss q.above q.clear) q.apart')
+        (and (apart front ss) (all_apart ss) (apart_of front ss q.above q.clear) q.apart')

@@ -11,8 +11,8 @@ use lib.ListN.{length, drop, set, get_or, length-append, length-set}
 use lib.Seq.{drop-cons, set_at}
 use borrow.Author.Tests.{ne_eqb}
 use Rattle.words.specs.Answer.{ok, if◌then◌else◌}
-use Rattle.unwinding.specs.Trail.{Walker, FrameOf, Trail, stopped, listed, filled, nextFrame, walkFrom, walk}
-use Rattle.unwinding.specs.as_coded.Turn.{Standing, Turn, Small, begun, gone}
+use Rattle.unwinding.specs.Trail.{Walker, FrameOf, Trail, stopped, listed, filled, next_frame, walk_from, walk}
+use Rattle.unwinding.specs.AsCoded.Turn.{Standing, Turn, Small, begun, gone}
 use Rattle.unwinding.proofs.Turns.{Turns, at-end, at-full, at-refusal, goes}
 use Rattle.unwinding.proofs.Rising.{Bounded, small-on}
 
@@ -30,7 +30,7 @@ put_on : {F : Type 0} (fs L : List F) (k : ℕ) (f : F) → length fs ≡ k → 
 put_on fs L k f l h = rw (append_assoc, add-one, drop-cons L k f) (set_at fs (get_or L k f) (drop (suc k) L) f k l)
 
 module _ (W : Walker) where
-  open W use {State, Caller, place, Frame, listedAs}
+  open W use {State, Caller, place, Frame, listed_as}
 
   -- a trail behind the frames listed so far, with the sum of their codes
   abbrev pub after : List Frame → ℕ → Trail W → Trail W
@@ -40,7 +40,7 @@ module _ (W : Walker) where
   after_none w = let z : 0 + w.codes ≡ w.codes = omega arith in rw z
 
   after-listed : (fs : List Frame) (m : ℕ) (g : State) (c : Caller) (w : Trail W)
-      → after (fs ++ (listedAs g (place c) ∷ [])) (m + W.codes c) w ≡ after fs m (listed W g c w)
+      → after (fs ++ (listed_as g (place c) ∷ [])) (m + W.codes c) w ≡ after fs m (listed W g c w)
   after-listed fs m g c w =
       let n : m + W.codes c + w.codes ≡ m + (W.codes c + w.codes) = omega arith in rw (append_assoc, n)
 
@@ -49,11 +49,11 @@ module _ (W : Walker) (frame_of : FrameOf W) where
 
   -- what is left to walk from where it stands, with room for so many more
   abbrev pub rest_of : (left : ℕ) → Standing W → Trail W
-  rest_of left s = if s.end then stopped W ended else walkFrom W frame_of left (eqb s.frames 0) s.at
+  rest_of left s = if s.end then stopped W ended else walk_from W frame_of left (eqb s.frames 0) s.at
 
   -- nothing, where a turn does not go on
   pub over : {room : ℕ} {s : Standing W} {r : Turn W} (left : ℕ) → Turns W frame_of room s r → s.frames + left ≡ room → r.on ≡ false → rest_of left s ≡ stopped W r.stop
-  unfolding walkFrom
+  unfolding walk_from
   over left (at-end p) k o = rw p
   over zero (at-full p f) k o = rw p
   over (suc n) (at-full p f) k o = absurd (omega arith)
@@ -62,15 +62,15 @@ module _ (W : Walker) (frame_of : FrameOf W) where
   over left (goes c p f w) k o = absurd (let z : ◌≡◌ {A = ℕ} 0 1 = cc in omega arith)
 
   -- the frame, and then what is left from the next state
-  pub goes_on : (left : ℕ) (s : Standing W) (c : Caller) → s.end ≡ false → nextFrame W frame_of (eqb s.frames 0) s.at ≡ ok c
+  pub goes_on : (left : ℕ) (s : Standing W) (c : Caller) → s.end ≡ false → next_frame W frame_of (eqb s.frames 0) s.at ≡ ok c
       → rest_of (suc left) s ≡ listed W s.at c (rest_of left (gone W s c).next)
-  unfolding walkFrom
+  unfolding walk_from
   goes_on left s c p w = rw (p, w, ne_eqb (s.frames + 1) 0 (λ h. omega arith))
 
   -- a turn that goes on met neither the end nor a full list nor a refusal
   pub record Onward (room : ℕ) (s : Standing W) (r : Turn W) : Type 0 where
     pub caller : Caller
-    pub unwinds : nextFrame W frame_of (eqb s.frames 0) s.at ≡ ok caller
+    pub unwinds : next_frame W frame_of (eqb s.frames 0) s.at ≡ ok caller
     pub going : s.end ≡ false
     pub within : s.frames < room
     pub is : r ≡ gone W s caller

@@ -5,15 +5,15 @@ use Prim.Native.Nat.{ℕ, zero, suc, ◌+◌, ◌-◌}
 use mathlib.Core.Path.{◌≡◌, refl, sym, ap, ap₂, ◌∙◌}
 use mathlib.Core.List.{List, [], ◌∷◌, map}
 use mathlib.Core.Bool.{Bool, true, false, ◌&&◌}
-use Rattle.words.specs.Units.{codeBytes}
+use Rattle.words.specs.Units.{code_bytes}
 use Rattle.words.specs.declared.CodeBytes.{CodeBytes}
 use Rattle.words.specs.declared.Refusal.{Refusal}
 use Rattle.words.specs.declared.Refusal.TheVariants.{BadLayout}
 use Rattle.words.specs.Answer.{Res, ok, refuse, ◌>>=◌, ◌>>◌, need, if◌then◌else◌}
 use Rattle.unwinding.specs.CodeList.{Codes, total}
-use Rattle.unwinding.specs.Taking.{Taken, one, last, bad, Scan, follow, scanFrom, scan, codesAt}
+use Rattle.unwinding.specs.Taking.{Taken, one, last, bad, Scan, follow, scan_from, scan, codes_at}
 use Rattle.unwinding.specs.Shape.{Shape, start_of}
-use Rattle.unwinding.specs.View.{EpilogueOf, View, Stretch, stretch, inside, ascending, allApart, fits, epilogues, view}
+use Rattle.unwinding.specs.View.{EpilogueOf, View, Stretch, stretch, inside, ascending, all_apart, fits, epilogues, view}
 use Rattle.unwinding.specs.declared.Scope.{Scope}
 
 -- an answer's value, by a function
@@ -38,41 +38,41 @@ module _ {C D : Type 0} (f : D → C) where
   taken_of (last n) = last n
   taken_of (bad i) = bad i
 
-  abbrev pub scanOf : Scan D → Scan C
-  scanOf s = record { list = map f s.list; ending = s.ending }
+  abbrev pub scan_of : Scan D → Scan C
+  scan_of s = record { list = map f s.list; ending = s.ending }
 
   abbrev pub codes_of : Codes D → Codes C
-  codes_of c = record { list = map f c.list; endSize = c.endSize }
+  codes_of c = record { list = map f c.list; end_size = c.end_size }
 
-  abbrev pub epilogueOf : EpilogueOf D → EpilogueOf C
-  epilogueOf e = record { start = e.start; size = e.size; condition = e.condition; codes = codes_of e.codes }
+  abbrev pub epilogue_of : EpilogueOf D → EpilogueOf C
+  epilogue_of e = record { start = e.start; size = e.size; condition = e.condition; codes = codes_of e.codes }
 
   abbrev pub view_of : View D → View C
-  view_of v = record { codes = codes_of v.codes; prologue = v.prologue; epilogues = map epilogueOf v.epilogues }
+  view_of v = record { codes = codes_of v.codes; prologue = v.prologue; epilogues = map epilogue_of v.epilogues }
 
   module _ (take : ℕ → List ℕ → Taken D) (take' : ℕ → List ℕ → Taken C) (bytes : ℕ → ℕ) (alike : (at : ℕ) (l : List ℕ) → taken_of (take at l) ≡ take' at l) where
-    scan-from : (l : List ℕ) (at k : ℕ) → scanOf (scanFrom take bytes at l k) ≡ scanFrom take' bytes at l k
-    unfolding scanFrom
+    scan-from : (l : List ℕ) (at k : ℕ) → scan_of (scan_from take bytes at l k) ≡ scan_from take' bytes at l k
+    unfolding scan_from
     scan-from [] at k = refl
     scan-from (b ∷ s) at (suc k) = scan-from s (at + 1) k
-    scan-from (b ∷ s) at zero = go (take at (b ∷ s)) (scan-from s (at + 1) (bytes b - 1)) ∙ ap (λ x. follow x (λ next. scanFrom take' bytes (at + 1) s (bytes b - 1))) (alike at (b ∷ s))
+    scan-from (b ∷ s) at zero = go (take at (b ∷ s)) (scan-from s (at + 1) (bytes b - 1)) ∙ ap (λ x. follow x (λ next. scan_from take' bytes (at + 1) s (bytes b - 1))) (alike at (b ∷ s))
       where
         go :
-            (x : Taken D) → scanOf (scanFrom take bytes (at + 1) s (bytes b - 1)) ≡ scanFrom take' bytes (at + 1) s (bytes b - 1)
-            → scanOf (follow x (λ next. scanFrom take bytes (at + 1) s (bytes b - 1))) ≡ follow (taken_of x) (λ next. scanFrom take' bytes (at + 1) s (bytes b - 1))
+            (x : Taken D) → scan_of (scan_from take bytes (at + 1) s (bytes b - 1)) ≡ scan_from take' bytes (at + 1) s (bytes b - 1)
+            → scan_of (follow x (λ next. scan_from take bytes (at + 1) s (bytes b - 1))) ≡ follow (taken_of x) (λ next. scan_from take' bytes (at + 1) s (bytes b - 1))
         go (one d next) ih = ap (λ (r : Scan C). record { list = f d ∷ r.list; ending = r.ending }) ih
         go (last n) ih = refl
         go (bad i) ih = refl
 
-    pub scan-mapped : (s : List ℕ) (i : CodeBytes) → scanOf (scan take bytes s i) ≡ scan take' bytes s i
+    pub scan-mapped : (s : List ℕ) (i : CodeBytes) → scan_of (scan take bytes s i) ≡ scan take' bytes s i
     scan-mapped s i = scan-from s 0 i.0
 
-    pub codes-mapped : (s : List ℕ) (i : CodeBytes) → mapped codes_of (codesAt take bytes s i) ≡ codesAt take' bytes s i
-    codes-mapped s i = go (scan take bytes s i).ending ∙ ap (λ (x : Scan C). x.ending >>= λ n. ok (record { list = x.list; endSize = n })) (scan-mapped s i)
+    pub codes-mapped : (s : List ℕ) (i : CodeBytes) → mapped codes_of (codes_at take bytes s i) ≡ codes_at take' bytes s i
+    codes-mapped s i = go (scan take bytes s i).ending ∙ ap (λ (x : Scan C). x.ending >>= λ n. ok (record { list = x.list; end_size = n })) (scan-mapped s i)
       where
         go :
             (x : Res ℕ)
-            → mapped codes_of (x >>= λ n. ok (record { list = (scan take bytes s i).list; endSize = n })) ≡ (x >>= λ n. ok (record { list = map f (scan take bytes s i).list; endSize = n }))
+            → mapped codes_of (x >>= λ n. ok (record { list = (scan take bytes s i).list; end_size = n })) ≡ (x >>= λ n. ok (record { list = map f (scan take bytes s i).list; end_size = n }))
         go (ok n) = refl
         go (refuse r) = refl
 
@@ -85,31 +85,31 @@ module _ {C D : Type 0} (f : D → C) where
     total-mapped [] = refl
     total-mapped (d ∷ l) = ap (λ n. size (f d) + n) (total-mapped l)
 
-    stretches : (es : List (EpilogueOf D)) → map stretch (map epilogueOf es) ≡ map stretch es
+    stretches : (es : List (EpilogueOf D)) → map stretch (map epilogue_of es) ≡ map stretch es
     stretches [] = refl
     stretches (e ∷ es) = ap (λ l. stretch e ∷ l) (stretches es)
 
-    starts : (es : List (EpilogueOf D)) → map (λ (e : EpilogueOf C). e.start) (map epilogueOf es) ≡ map (λ (e : EpilogueOf D). e.start) es
+    starts : (es : List (EpilogueOf D)) → map (λ (e : EpilogueOf C). e.start) (map epilogue_of es) ≡ map (λ (e : EpilogueOf D). e.start) es
     starts [] = refl
     starts (e ∷ es) = ap (λ l. e.start ∷ l) (starts es)
 
-    fits-mapped : (span p : ℕ) (es : List (EpilogueOf D)) → fits span p es ≡ fits span p (map epilogueOf es)
+    fits-mapped : (span p : ℕ) (es : List (EpilogueOf D)) → fits span p es ≡ fits span p (map epilogue_of es)
     fits-mapped span p es =
-        ap₂ (λ (a : List Stretch) b. inside span (record { from = 0; to = p } ∷ a) && ascending b && allApart (record { from = 0; to = p } ∷ a)) (sym (stretches es)) (sym (starts es))
+        ap₂ (λ (a : List Stretch) b. inside span (record { from = 0; to = p } ∷ a) && ascending b && all_apart (record { from = 0; to = p } ∷ a)) (sym (stretches es)) (sym (starts es))
 
-    pub epilogues-mapped : (s : Shape) (scs : List Scope) → mapped (map epilogueOf) (epilogues sized read s scs) ≡ epilogues size read' s scs
+    pub epilogues-mapped : (s : Shape) (scs : List Scope) → mapped (map epilogue_of) (epilogues sized read s scs) ≡ epilogues size read' s scs
     unfolding epilogues
     epilogues-mapped s [] = refl
     epilogues-mapped s (e ∷ es) =
-        mapped-bind codes_of (map epilogueOf) (read s.codes e.index) _ _ _ (alike s.codes e.index)
-        (λ c. mapped-bind (map epilogueOf) (map epilogueOf) (epilogues sized read s es) _ _ _ (epilogues-mapped s es)
-        (λ rest. ap (λ n. ok (record { start = start_of e.start s.span (n + c.endSize); size = n + c.endSize; condition = e.condition; codes = codes_of c } ∷ map epilogueOf rest)) (total-mapped c.list)))
+        mapped-bind codes_of (map epilogue_of) (read s.codes e.index) _ _ _ (alike s.codes e.index)
+        (λ c. mapped-bind (map epilogue_of) (map epilogue_of) (epilogues sized read s es) _ _ _ (epilogues-mapped s es)
+        (λ rest. ap (λ n. ok (record { start = start_of e.start s.span (n + c.end_size); size = n + c.end_size; condition = e.condition; codes = codes_of c } ∷ map epilogue_of rest)) (total-mapped c.list)))
 
     pub view-mapped : (s : Shape) → mapped view_of (view sized read s) ≡ view size read' s
     unfolding view
     view-mapped s =
-        mapped-bind codes_of view_of (read s.codes (codeBytes 0)) _ _ _ (alike s.codes (codeBytes 0))
-        (λ c. mapped-bind (map epilogueOf) view_of (epilogues sized read s s.scopes) _ _ _ (epilogues-mapped s s.scopes) (λ es. last_step c es))
+        mapped-bind codes_of view_of (read s.codes (code_bytes 0)) _ _ _ (alike s.codes (code_bytes 0))
+        (λ c. mapped-bind (map epilogue_of) view_of (epilogues sized read s s.scopes) _ _ _ (epilogues-mapped s s.scopes) (λ es. last_step c es))
       where
         prologue : Codes D → ℕ
         prologue c = if s.fragment then 0 else total sized c.list
@@ -120,9 +120,9 @@ module _ {C D : Type 0} (f : D → C) where
         last_step :
             (c : Codes D) (es : List (EpilogueOf D))
             → mapped view_of (need (fits s.span (prologue c) es) BadLayout >> ok (record { codes = c; prologue = prologue c; epilogues = es }))
-            ≡ (need (fits s.span (prologue' c) (map epilogueOf es)) BadLayout >> ok (record { codes = codes_of c; prologue = prologue' c; epilogues = map epilogueOf es }))
+            ≡ (need (fits s.span (prologue' c) (map epilogue_of es)) BadLayout >> ok (record { codes = codes_of c; prologue = prologue' c; epilogues = map epilogue_of es }))
         last_step c es =
             let p : prologue c ≡ prologue' c = ap (λ n. if s.fragment then 0 else n) (total-mapped c.list) in
             mapped-need view_of _ _ BadLayout _ _
             (ap (λ n. fits s.span n es) p ∙ fits-mapped s.span (prologue' c) es)
-            (ap (λ n. record { codes = codes_of c; prologue = n; epilogues = map epilogueOf es }) p)
+            (ap (λ n. record { codes = codes_of c; prologue = n; epilogues = map epilogue_of es }) p)

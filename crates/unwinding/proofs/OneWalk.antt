@@ -12,10 +12,10 @@ use borrow.Author.Tests.{ltb-true, ltb-false}
 use Rattle.words.specs.declared.Refusal.{Refusal}
 use Rattle.words.specs.declared.Verdict.TheVariants.{Given}
 use Rattle.unwinding.specs.Trail.{Walker}
-use Rattle.unwinding.specs.Singly.{Alone, Walked, WalkedAll, Untouched, reached, codesRun, Why, itself, uncovered, still, Stops, at-end, at-full, at-refusal, Onward, Follows}
+use Rattle.unwinding.specs.Singly.{Alone, Walked, WalkedAll, Untouched, reached, codes_run, Why, itself, uncovered, still, Stops, at-end, at-full, at-refusal, Onward, Follows}
 
 module _ (W : Walker) (unwind : W.State → Alone W) where
-  open W use {State, Frame, Stop, refusedAt}
+  open W use {State, Frame, Stop, refused_at}
 
   -- ---- one stop
   module _ (g : State) (n : ℕ) where
@@ -39,7 +39,7 @@ module _ (W : Walker) (unwind : W.State → Alone W) where
     stop-one (at-full e k) (at-refusal r e' k' w) = absurd (omega arith)
     stop-one (at-refusal r e k w) (at-end l p) = absurd (k l p)
     stop-one (at-refusal r e k w) (at-full e' k') = absurd (omega arith)
-    stop-one (at-refusal r e k w) (at-refusal r' e' k' w') = ap (refusedAt g) (why-one w w')
+    stop-one (at-refusal r e k w) (at-refusal r' e' k' w') = ap (refused_at g) (why-one w w')
 
     -- a walk that stops at g does not go on there
     no-further : {room : ℕ} {s : Stop} (m : ℕ) → n < m → m ≤ room → (unwind g).verdict ≡ Given → (0 < n → Onward W unwind g) → Stops W unwind g n room s → ⊥
@@ -73,7 +73,7 @@ module _ (W : Walker) (unwind : W.State → Alone W) where
               (stop-one (reached W unwind g w.walked.frames) w.walked.frames f.stop
               (subst (λ k. Stops W unwind (reached W unwind g k) k room w'.walked.stop) (sym n) f'.stop))
               n
-              (f.codes ∙ ap (codesRun W unwind g) n ∙ sym f'.codes);
+              (f.codes ∙ ap (codes_run W unwind g) n ∙ sym f'.codes);
           listed = λ k none l. f.shown k none l ∙ sym (f'.shown k none (omega arith));
         }
 

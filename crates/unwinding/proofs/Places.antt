@@ -13,12 +13,12 @@ use Rattle.words.specs.declared.Place.{Place}
 use Rattle.words.specs.declared.Place.TheVariants.{Prologue, Body, Epilogue}
 use Rattle.words.specs.Answer.{ok, if◌then◌else◌}
 use Rattle.unwinding.specs.CodeList.{total}
-use Rattle.unwinding.specs.View.{EpilogueOf, View, Stretch, stretch, shared, inside, apart, allApart, ascending, fits}
-use Rattle.unwinding.specs.Todo.{left, inEpilogue, inEpilogues, todo}
+use Rattle.unwinding.specs.View.{EpilogueOf, View, Stretch, stretch, shared, inside, apart, all_apart, ascending, fits}
+use Rattle.unwinding.specs.Todo.{left, in_epilogue, in_epilogues, todo}
 use Rattle.unwinding.specs.Listed.{Of, here, later, InNone}
 use Rattle.unwinding.specs.declared.Scope.{Scope}
 use Rattle.unwinding.proofs.All.{Sized}
-use Rattle.unwinding.proofs.Ends.{total-append, endOf-boundary}
+use Rattle.unwinding.proofs.Ends.{total-append, end_of-boundary}
 use Rattle.words.proofs.Tests.{both}
 
 -- ---- stretches that are apart
@@ -39,13 +39,13 @@ apart_of a (later {b = b} {exs = exs} m) h = apart_of a m (both (not (shared a (
 -- the prologue and the epilogues are apart
 pub record Apart {C : Type 0} (v : View C) : Type 0 where
   pub prologue : apart (record { from = 0; to = v.prologue }) (map stretch v.epilogues) ≡ true
-  pub epilogues : allApart (map stretch v.epilogues) ≡ true
+  pub epilogues : all_apart (map stretch v.epilogues) ≡ true
 
-pub all_apart : {C : Type 0} (span : ℕ) (v : View C) → fits span v.prologue v.epilogues ≡ true → Apart v
-all_apart span v h =
+pub all_apart_lem : {C : Type 0} (span : ℕ) (v : View C) → fits span v.prologue v.epilogues ≡ true → Apart v
+all_apart_lem span v h =
     let all : List Stretch = record { from = 0; to = v.prologue } ∷ map stretch v.epilogues in
-    let a = both (inside span all && ascending (map (λ e. e.start) v.epilogues)) (allApart all) h in
-    let b = both (apart (record { from = 0; to = v.prologue }) (map stretch v.epilogues)) (allApart (map stretch v.epilogues)) a.1 in
+    let a = both (inside span all && ascending (map (λ e. e.start) v.epilogues)) (all_apart all) h in
+    let b = both (apart (record { from = 0; to = v.prologue }) (map stretch v.epilogues)) (all_apart (map stretch v.epilogues)) a.1 in
     record { prologue = b.0; epilogues = b.1 }
 
 module _ {C : Type 0} (size : C → ℕ) where
@@ -54,7 +54,7 @@ module _ {C : Type 0} (size : C → ℕ) where
       (p : Place) (after n : ℕ) (skipped done : List C) → Sized size skipped → total size done + after ≡ n
       → left size p after n (skipped ++ done) ≡ ok (record { place = p; codes = done })
   unfolding left
-  left-boundary p after n skipped done z h = rw (endOf-boundary size after n skipped done z h) refl
+  left-boundary p after n skipped done z h = rw (end_of-boundary size after n skipped done z h) refl
 
 module _ {C : Type 0} (size : C → ℕ) (may : ℕ → Bool) where
   -- ---- in the prologue
@@ -67,10 +67,10 @@ module _ {C : Type 0} (size : C → ℕ) (may : ℕ → Bool) where
       rw (lt-ltb _ _ h, e) (left-boundary size Prologue 0 (total size done) ahead done p q)
 
   -- ---- in no epilogue
-  epilogues-none : (es : List (EpilogueOf C)) (o : ℕ) (cs : List C) → InNone o es → inEpilogues size may es o cs ≡ ok (record { place = Body; codes = cs })
-  unfolding inEpilogues
+  epilogues-none : (es : List (EpilogueOf C)) (o : ℕ) (cs : List C) → InNone o es → in_epilogues size may es o cs ≡ ok (record { place = Body; codes = cs })
+  unfolding in_epilogues
   epilogues-none [] o cs h = refl
-  epilogues-none (e ∷ es) o cs h = ap (λ t. if t then inEpilogue size may e o else inEpilogues size may es o cs) (out h.0) ∙ epilogues-none es o cs h.1
+  epilogues-none (e ∷ es) o cs h = ap (λ t. if t then in_epilogue size may e o else in_epilogues size may es o cs) (out h.0) ∙ epilogues-none es o cs h.1
     where
       out : (o < e.start) ⊎ (e.start + e.size ≤ o) → (leb e.start o && ltb o (e.start + e.size)) ≡ false
       out (inl l) = rw (lt-leb _ _ l) refl
@@ -87,27 +87,27 @@ module _ {C : Type 0} (size : C → ℕ) (may : ℕ → Bool) where
   -- ---- in an epilogue
   pub epilogue-boundary :
       (e : EpilogueOf C) (o : ℕ) (done rest : List C) → e.codes.list ≡ done ++ rest → Sized size done → may e.condition ≡ true
-      → total size rest + e.codes.endSize ≡ e.start + e.size - o
-      → inEpilogue size may e o ≡ ok (record { place = Epilogue; codes = rest })
-  unfolding inEpilogue
+      → total size rest + e.codes.end_size ≡ e.start + e.size - o
+      → in_epilogue size may e o ≡ ok (record { place = Epilogue; codes = rest })
+  unfolding in_epilogue
   epilogue-boundary e o done rest split z c h =
-      rw (split, left-boundary size Epilogue e.codes.endSize (e.start + e.size - o) done rest z h, c) refl
+      rw (split, left-boundary size Epilogue e.codes.end_size (e.start + e.size - o) done rest z h, c) refl
 
   -- of epilogues that are apart, the one that the offset falls into
   found :
-      {sc : Scope} {ex : EpilogueOf C} {scs : List Scope} {exs : List (EpilogueOf C)} (o : ℕ) (cs : List C) → Of sc ex scs exs → allApart (map stretch exs) ≡ true
+      {sc : Scope} {ex : EpilogueOf C} {scs : List Scope} {exs : List (EpilogueOf C)} (o : ℕ) (cs : List C) → Of sc ex scs exs → all_apart (map stretch exs) ≡ true
       → ex.start ≤ o
       → o < ex.start + ex.size
-      → inEpilogues size may exs o cs ≡ inEpilogue size may ex o
-  unfolding inEpilogues
+      → in_epilogues size may exs o cs ≡ in_epilogue size may ex o
+  unfolding in_epilogues
   found {ex} o cs (here {exs = exs}) h p q = rw (le-leb _ _ p, lt-ltb _ _ q) refl
   found {ex} o cs (later {b = b} {exs = exs} m) h p q =
-      let w = both (apart (stretch b) (map stretch exs)) (allApart (map stretch exs)) h in
+      let w = both (apart (stretch b) (map stretch exs)) (all_apart (map stretch exs)) h in
       go (leb b.start o) (ltb o (b.start + b.size)) refl refl (apart_of (stretch b) m w.0) (found o cs m w.1 p q)
     where
       go :
-          (s t : Bool) → leb b.start o ≡ s → ltb o (b.start + b.size) ≡ t → not (shared (stretch b) (stretch ex)) ≡ true → inEpilogues size may exs o cs ≡ inEpilogue size may ex o
-          → (if s && t then inEpilogue size may b o else inEpilogues size may exs o cs) ≡ inEpilogue size may ex o
+          (s t : Bool) → leb b.start o ≡ s → ltb o (b.start + b.size) ≡ t → not (shared (stretch b) (stretch ex)) ≡ true → in_epilogues size may exs o cs ≡ in_epilogue size may ex o
+          → (if s && t then in_epilogue size may b o else in_epilogues size may exs o cs) ≡ in_epilogue size may ex o
       go true true e f n ih = absurd (apart-not (stretch b) (stretch ex) o n (leb-true _ _ e) (ltb-true _ _ f) p q)
       go true false e f n ih = ih
       go false t e f n ih = ih
@@ -116,7 +116,7 @@ module _ {C : Type 0} (size : C → ℕ) (may : ℕ → Bool) where
       {sc : Scope} {ex : EpilogueOf C} {scs : List Scope} (span : ℕ) (v : View C) (done rest : List C) → fits span v.prologue v.epilogues ≡ true
       → Of sc ex scs v.epilogues
       → may ex.condition ≡ true
-      → ex.size ≡ total size ex.codes.list + ex.codes.endSize
+      → ex.size ≡ total size ex.codes.list + ex.codes.end_size
       → Sized size done
       → ex.codes.list ≡ done ++ rest
       → total size done < ex.size
@@ -124,9 +124,9 @@ module _ {C : Type 0} (size : C → ℕ) (may : ℕ → Bool) where
   unfolding todo
   todo-epilogue {ex} span v done rest f m c z p e h =
       let o : ℕ = ex.start + total size done in
-      let a = all_apart span v f in
+      let a = all_apart_lem span v f in
       let late : v.prologue ≤ o = low a (ltb o v.prologue) refl in
-      let n : total size rest + ex.codes.endSize ≡ ex.start + ex.size - o = omega (arith, z, ap (total size) e, total-append size done rest) in
+      let n : total size rest + ex.codes.end_size ≡ ex.start + ex.size - o = omega (arith, z, ap (total size) e, total-append size done rest) in
       rw (le-ltb o v.prologue late)
       (found o v.codes.list m a.epilogues (omega arith) (omega arith) ∙ epilogue-boundary ex o done rest e p c n)
     where

@@ -11,7 +11,7 @@ use lib.Dec.{leb, ltb, eqb}
 use lib.ListN.{length, length-append}
 use native.Mathlib.Omega.{arith}
 use borrow.Author.Tests.{not-true, lt-ltb, le-ltb, le-leb, eq-eqb, ne_eqb, ltb-false, leb-true, leb-false, eqb-true, eqb-false}
-use Rattle.words.specs.Units.{codeBytes}
+use Rattle.words.specs.Units.{code_bytes}
 use Rattle.words.specs.declared.CodeBytes.{CodeBytes}
 use Rattle.words.specs.declared.Place.{Place}
 use Rattle.words.specs.declared.Place.TheVariants.{Prologue, Body}
@@ -21,12 +21,12 @@ use Rattle.words.proofs.Answers.{bind-same}
 use Rattle.words.proofs.Tests.{both}
 use Rattle.unwinding.specs.CodeList.{Codes, total, end_of, run}
 use Rattle.unwinding.specs.Shape.{Shape}
-use Rattle.unwinding.specs.View.{EpilogueOf, View, Stretch, stretch, shared, inside, apart, allApart, ascending, fits, epilogues, view}
-use Rattle.unwinding.specs.Todo.{Todo, left, inEpilogue, inEpilogues, todo}
+use Rattle.unwinding.specs.View.{EpilogueOf, View, Stretch, stretch, shared, inside, apart, all_apart, ascending, fits, epilogues, view}
+use Rattle.unwinding.specs.Todo.{Todo, left, in_epilogue, in_epilogues, todo}
 use Rattle.unwinding.specs.Listed.{InNone}
-use Rattle.unwinding.proofs.Ends.{total-step, total-append, endOf-step, endOf-short}
+use Rattle.unwinding.proofs.Ends.{total-step, total-append, end_of-step, end_of-short}
 use Rattle.unwinding.proofs.Running.{run_step, run-append}
-use Rattle.unwinding.proofs.Places.{apart-not, all_apart, todo-body}
+use Rattle.unwinding.proofs.Places.{apart-not, all_apart_lem, todo-body}
 
 -- ---- a shorter prologue
 abbrev up_to : ℕ → Stretch
@@ -47,10 +47,10 @@ fits-shorter : {C : Type 0} (span p q : ℕ) (es : List (EpilogueOf C)) → q �
 fits-shorter span p q es h e =
     let all : List Stretch = map stretch es in
     let starts : Bool = ascending (map (λ x. x.start) es) in
-    let a = both (leb p span && inside span all && starts) (apart (up_to p) all && allApart all) e in
+    let a = both (leb p span && inside span all && starts) (apart (up_to p) all && all_apart all) e in
     let b = both (leb p span && inside span all) starts a.0 in
     let c = both (leb p span) (inside span all) b.0 in
-    let d = both (apart (up_to p) all) (allApart all) a.1 in
+    let d = both (apart (up_to p) all) (all_apart all) a.1 in
     let l : q ≤ span = omega (arith, leb-true p span c.0) in
     rw (le-leb q span l, c.1, b.1, apart-shorter p q h all d.0, d.1) refl
 
@@ -113,19 +113,19 @@ module _ {C : Type 0} {size : C → ℕ} {extra : ℕ} (r : Smaller size extra) 
 
   -- ---- the ends of the list
   -- those behind the code: what has no more than their size is one of them
-  endOf-until : (x : C) → 0 < size x → (o : ℕ) → o ≤ total size back → (c : List C) → end_of size 0 o (c ++ (x ∷ back)) ≡ end_of size 0 o back
-  endOf-until x z o h [] =
+  end_of-until : (x : C) → 0 < size x → (o : ℕ) → o ≤ total size back → (c : List C) → end_of size 0 o (c ++ (x ∷ back)) ≡ end_of size 0 o back
+  end_of-until x z o h [] =
       let q : total size (x ∷ back) + 0 ≡ o → ⊥ = λ e. omega (arith, total-step size x back) in
-      endOf-step size 0 o x back ∙ rw (ne_eqb _ _ q) refl
-  endOf-until x z o h (d ∷ c) =
+      end_of-step size 0 o x back ∙ rw (ne_eqb _ _ q) refl
+  end_of-until x z o h (d ∷ c) =
       let q : total size (d ∷ (c ++ (x ∷ back))) + 0 ≡ o → ⊥ = λ e. omega (arith, total-step size d (c ++ (x ∷ back)), total-append size c (x ∷ back), total-step size x back) in
-      endOf-step size 0 o d (c ++ (x ∷ back)) ∙ rw (ne_eqb _ _ q) (endOf-until x z o h c)
+      end_of-step size 0 o d (c ++ (x ∷ back)) ∙ rw (ne_eqb _ _ q) (end_of-until x z o h c)
 
   left-until : (p : Place) (o : ℕ) → o ≤ total size back → (c : List C) → left size p 0 o (c ++ (new ∷ back)) ≡ left size p 0 o (c ++ (old ∷ back))
   unfolding left
   left-until p o h c =
       ap (λ x. maybe x (refuse InsideInstruction) (λ l. ok (record { place = p; codes = l })))
-      (endOf-until new r.sized o h c ∙ sym (endOf-until old (omega (arith, r.larger, r.sized)) o h c))
+      (end_of-until new r.sized o h c ∙ sym (end_of-until old (omega (arith, r.larger, r.sized)) o h c))
 
   module _ {X : Type 0} (f : Todo C → Res X) (blind : Blind f) where
     abbrev made : Place → Option (List C) → Res X
@@ -138,7 +138,7 @@ module _ {C : Type 0} {size : C → ℕ} {extra : ℕ} (r : Smaller size extra) 
         → made p (end_of size 0 o xs) ≡ made p (end_of size 0 (o + extra) ys)
         → made p (end_of size 0 o (x ∷ xs)) ≡ made p (end_of size 0 (o + extra) (y ∷ ys))
     made-step p o x y xs ys k same rest =
-        ap (made p) (endOf-step size 0 o x xs) ∙ go (eqb (total size (x ∷ xs) + 0) o) refl ∙ sym (ap (made p) (endOf-step size 0 (o + extra) y ys))
+        ap (made p) (end_of-step size 0 o x xs) ∙ go (eqb (total size (x ∷ xs) + 0) o) refl ∙ sym (ap (made p) (end_of-step size 0 (o + extra) y ys))
       where
         go :
             (t : Bool) → eqb (total size (x ∷ xs) + 0) o ≡ t
@@ -154,7 +154,7 @@ module _ {C : Type 0} {size : C → ℕ} {extra : ℕ} (r : Smaller size extra) 
     made-behind : (p : Place) (o : ℕ) → total size back < o → (c : List C) → made p (end_of size 0 o (c ++ (new ∷ back))) ≡ made p (end_of size 0 (o + extra) (c ++ (old ∷ back)))
     made-behind p o h [] =
         made-step p o new old back back (total-resized []) (blind p [])
-        (ap (made p) (endOf-short size 0 o back (omega arith) ∙ sym (endOf-short size 0 (o + extra) back (omega arith))))
+        (ap (made p) (end_of-short size 0 o back (omega arith) ∙ sym (end_of-short size 0 (o + extra) back (omega arith))))
     made-behind p o h (d ∷ c) =
         made-step p o d d (c ++ (new ∷ back)) (c ++ (old ∷ back)) (total-resized (d ∷ c)) (blind p (d ∷ c)) (made-behind p o h c)
 
@@ -165,14 +165,14 @@ module _ {C : Type 0} {size : C → ℕ} {extra : ℕ} (r : Smaller size extra) 
     -- ---- past the prologue
     epilogues-alike :
         (may : ℕ → Bool) (es : List (EpilogueOf C)) (o : ℕ) (c : List C)
-        → (inEpilogues size may es o (c ++ (new ∷ back)) >>= f) ≡ (inEpilogues size may es o (c ++ (old ∷ back)) >>= f)
-    unfolding inEpilogues
+        → (in_epilogues size may es o (c ++ (new ∷ back)) >>= f) ≡ (in_epilogues size may es o (c ++ (old ∷ back)) >>= f)
+    unfolding in_epilogues
     epilogues-alike may [] o c = blind Body c
     epilogues-alike may (e ∷ es) o c = go (leb e.start o && ltb o (e.start + e.size)) (epilogues-alike may es o c)
       where
         go :
-            (t : Bool) → (inEpilogues size may es o (c ++ (new ∷ back)) >>= f) ≡ (inEpilogues size may es o (c ++ (old ∷ back)) >>= f)
-            → ((if t then inEpilogue size may e o else inEpilogues size may es o (c ++ (new ∷ back))) >>= f) ≡ ((if t then inEpilogue size may e o else inEpilogues size may es o (c ++ (old ∷ back))) >>= f)
+            (t : Bool) → (in_epilogues size may es o (c ++ (new ∷ back)) >>= f) ≡ (in_epilogues size may es o (c ++ (old ∷ back)) >>= f)
+            → ((if t then in_epilogue size may e o else in_epilogues size may es o (c ++ (new ∷ back))) >>= f) ≡ ((if t then in_epilogue size may e o else in_epilogues size may es o (c ++ (old ∷ back))) >>= f)
         go true ih = refl
         go false ih = ih
 
@@ -191,7 +191,7 @@ module _ {C : Type 0} {size : C → ℕ} {extra : ℕ} (r : Smaller size extra) 
 
     -- it passes 6 and 7 still
     pub view-resized :
-        (read : List ℕ → CodeBytes → Res (Codes C)) (s : Shape) → read s.codes (codeBytes 0) ≡ ok c → epilogues size read s s.scopes ≡ ok v.epilogues → s.fragment ≡ at.fragment
+        (read : List ℕ → CodeBytes → Res (Codes C)) (s : Shape) → read s.codes (code_bytes 0) ≡ ok c → epilogues size read s s.scopes ≡ ok v.epilogues → s.fragment ≡ at.fragment
         → fits s.span v.prologue v.epilogues ≡ true
         → view size read s ≡ ok resized
     unfolding view
@@ -203,7 +203,7 @@ module _ {C : Type 0} {size : C → ℕ} {extra : ℕ} (r : Smaller size extra) 
       pub todo-freed :
           (span o : ℕ) → fits span v.prologue v.epilogues ≡ true → o < v.prologue → v.prologue ≤ o + extra
           → todo size may resized o ≡ ok (record { place = Body; codes = c.list })
-      todo-freed span o f h k = todo-body size may resized o (omega arith) (none-early v.prologue o v.epilogues h (all_apart span v f).prologue)
+      todo-freed span o f h k = todo-body size may resized o (omega arith) (none-early v.prologue o v.epilogues h (all_apart_lem span v f).prologue)
 
       module _ {X : Type 0} (f : Todo C → Res X) (blind : Blind f) where
         pub todo-past : (o : ℕ) → v.prologue ≤ o → (todo size may resized o >>= f) ≡ (todo size may v o >>= f)

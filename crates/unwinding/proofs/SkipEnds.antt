@@ -10,44 +10,44 @@ use lib.Dec.{leb, eqb}
 use lib.ListN.{drop}
 use native.Mathlib.Omega.{arith}
 use borrow.Author.Tests.{ne_eqb, eqb-true, eqb-false, leb-true, leb-false}
-use Rattle.words.specs.Units.{codeBytes}
+use Rattle.words.specs.Units.{code_bytes}
 use Rattle.words.specs.declared.CodeBytes.{CodeBytes}
 use Rattle.words.specs.Answer.{maybe}
 use Rattle.unwinding.specs.CodeList.{total, end_of}
 use Rattle.unwinding.specs.Taking.{Taken, one, last, bad, follow, scan}
-use Rattle.unwinding.specs.Skip.{skipAt}
-use Rattle.unwinding.proofs.Ends.{total-empty, total-step, endOf-empty, endOf-step, endOf-whole, endOf-short}
+use Rattle.unwinding.specs.Skip.{skip_at}
+use Rattle.unwinding.proofs.Ends.{total-empty, total-step, end_of-empty, end_of-step, end_of-whole, end_of-short}
 use Rattle.unwinding.proofs.Scanning.{Takes, by_codes, scan_step}
 use Rattle.unwinding.proofs.Skipping.{skip-none, skip-one, skip-inside, skip-last, skip-bad}
 
 -- the codes behind what was skipped
-abbrev pub codesBehind : {C : Type 0} → (take : ℕ → List ℕ → Taken C) → (bytes : ℕ → ℕ) → List ℕ → Option CodeBytes → Option (List C)
-codesBehind take bytes s x = maybe x none (λ p. some (scan take bytes s p).list)
+abbrev pub codes_behind : {C : Type 0} → (take : ℕ → List ℕ → Taken C) → (bytes : ℕ → ℕ) → List ℕ → Option CodeBytes → Option (List C)
+codes_behind take bytes s x = maybe x none (λ p. some (scan take bytes s p).list)
 
 module _ {C : Type 0} (size : C → ℕ) {take : ℕ → List ℕ → Taken C} {bytes : ℕ → ℕ} (t : Takes take bytes) (s : List ℕ) where
   -- by what stands at an index
-  scan-by : (i : ℕ) {x : Taken C} → take i (drop i s) ≡ x → scan take bytes s (codeBytes i) ≡ follow x (scan take bytes s)
+  scan-by : (i : ℕ) {x : Taken C} → take i (drop i s) ≡ x → scan take bytes s (code_bytes i) ≡ follow x (scan take bytes s)
   scan-by i e = scan_step t s i ∙ ap (λ x. follow x (scan take bytes s)) e
 
   module _ (after n : ℕ) where
     abbrev codes : ℕ → List C
-    codes i = (scan take bytes s (codeBytes i)).list
+    codes i = (scan take bytes s (code_bytes i)).list
 
     abbrev Ends : ℕ → ℕ → Type 0
-    Ends i k = k + n ≡ total size (codes i) + after → end_of size after n (codes i) ≡ codesBehind take bytes s (skipAt size take bytes s (codeBytes i) k)
+    Ends i k = k + n ≡ total size (codes i) + after → end_of size after n (codes i) ≡ codes_behind take bytes s (skip_at size take bytes s (code_bytes i) k)
 
     -- nothing to skip
     ends-none : (i k : ℕ) → k ≡ 0 → Ends i k
     ends-none i k z h =
-        endOf-whole size after n (codes i) (omega arith)
-        ∙ sym (ap (codesBehind take bytes s) (ap (skipAt size take bytes s (codeBytes i)) z ∙ skip-none size t s i))
+        end_of-whole size after n (codes i) (omega arith)
+        ∙ sym (ap (codes_behind take bytes s) (ap (skip_at size take bytes s (code_bytes i)) z ∙ skip-none size t s i))
 
     -- nothing to take
-    ends-empty : (i k : ℕ) → (k ≡ 0 → ⊥) → codes i ≡ [] → skipAt size take bytes s (codeBytes i) k ≡ none → Ends i k
+    ends-empty : (i k : ℕ) → (k ≡ 0 → ⊥) → codes i ≡ [] → skip_at size take bytes s (code_bytes i) k ≡ none → Ends i k
     ends-empty i k z e q h =
         let u : total size (codes i) ≡ 0 = ap (total size) e ∙ total-empty size in
         let l : after ≡ n → ⊥ = λ p. z (omega arith) in
-        ap (end_of size after n) e ∙ endOf-empty size after n ∙ rw (ne_eqb after n l) (sym (ap (codesBehind take bytes s) q))
+        ap (end_of size after n) e ∙ end_of-empty size after n ∙ rw (ne_eqb after n l) (sym (ap (codes_behind take bytes s) q))
 
     -- a code, by what holds behind it
     ends-one :
@@ -64,15 +64,15 @@ module _ {C : Type 0} (size : C → ℕ) {take : ℕ → List ℕ → Taken C} {
         on : end_of size after n (codes i) ≡ end_of size after n (codes next.0)
         on =
             let q : total size (c ∷ codes next.0) + after ≡ n → ⊥ = λ p. z (omega (arith, ap (total size) l)) in
-            ap (end_of size after n) l ∙ endOf-step size after n c (codes next.0) ∙ rw (ne_eqb _ _ q) refl
+            ap (end_of size after n) l ∙ end_of-step size after n c (codes next.0) ∙ rw (ne_eqb _ _ q) refl
 
-        go : (x : Bool) → leb (size c) k ≡ x → end_of size after n (codes i) ≡ codesBehind take bytes s (skipAt size take bytes s (codeBytes i) k)
+        go : (x : Bool) → leb (size c) k ≡ x → end_of size after n (codes i) ≡ codes_behind take bytes s (skip_at size take bytes s (code_bytes i) k)
         go true p =
             let v : size c ≤ k = leb-true _ _ p in
-            on ∙ ih (k - size c) (omega (arith, u)) ∙ sym (ap (codesBehind take bytes s) (skip-one size t s i k z e v))
+            on ∙ ih (k - size c) (omega (arith, u)) ∙ sym (ap (codes_behind take bytes s) (skip-one size t s i k z e v))
         go false p =
             let v : k < size c = leb-false _ _ p in
-            on ∙ endOf-short size after n (codes next.0) (omega (arith, u)) ∙ sym (ap (codesBehind take bytes s) (skip-inside size t s i k z e v))
+            on ∙ end_of-short size after n (codes next.0) (omega (arith, u)) ∙ sym (ap (codes_behind take bytes s) (skip-inside size t s i k z e v))
 
     ends-here : (i : ℕ) → ((c : C) (next : CodeBytes) → take i (drop i s) ≡ one c next → (m : ℕ) → Ends next.0 m) → (k : ℕ) → Ends i k
     ends-here i ih k = start (eqb k 0) refl
@@ -89,13 +89,13 @@ module _ {C : Type 0} (size : C → ℕ) {take : ℕ → List ℕ → Taken C} {
     -- k bytes of instructions are skipped, and n are left with those after the list
     pub skip-ends :
         (i : CodeBytes) (k : ℕ) → k + n ≡ total size (scan take bytes s i).list + after
-        → end_of size after n (scan take bytes s i).list ≡ codesBehind take bytes s (skipAt size take bytes s i k)
+        → end_of size after n (scan take bytes s i).list ≡ codes_behind take bytes s (skip_at size take bytes s i k)
     skip-ends i k h = by_codes t s (λ j. (m : ℕ) → Ends j m) ends-here i.0 k h
 
   abbrev Same : ℕ → ℕ → Type 0
-  Same i k = (p : CodeBytes) → skipAt size take bytes s (codeBytes i) k ≡ some p → (scan take bytes s p).ending ≡ (scan take bytes s (codeBytes i)).ending
+  Same i k = (p : CodeBytes) → skip_at size take bytes s (code_bytes i) k ≡ some p → (scan take bytes s p).ending ≡ (scan take bytes s (code_bytes i)).ending
 
-  never : (i k : ℕ) → skipAt size take bytes s (codeBytes i) k ≡ none → Same i k
+  never : (i k : ℕ) → skip_at size take bytes s (code_bytes i) k ≡ none → Same i k
   never i k e p q = absurd (let z : ◌≡◌ {A = ℕ} 0 1 = cc in omega arith)
 
   same_here : (i : ℕ) → ((c : C) (next : CodeBytes) → take i (drop i s) ≡ one c next → (m : ℕ) → Same next.0 m) → (k : ℕ) → Same i k
@@ -113,11 +113,11 @@ module _ {C : Type 0} (size : C → ℕ) {take : ℕ → List ℕ → Taken C} {
 
       start : (x : Bool) → eqb k 0 ≡ x → Same i k
       start true e p q =
-          let w : some (codeBytes i) ≡ some p = sym (ap (skipAt size take bytes s (codeBytes i)) (eqb-true k 0 e) ∙ skip-none size t s i) ∙ q in
-          let v : codeBytes i ≡ p = cc in
+          let w : some (code_bytes i) ≡ some p = sym (ap (skip_at size take bytes s (code_bytes i)) (eqb-true k 0 e) ∙ skip-none size t s i) ∙ q in
+          let v : code_bytes i ≡ p = cc in
           ap (λ x. (scan take bytes s x).ending) (sym v)
       start false e p q = by-taken (eqb-false k 0 e) (take i (drop i s)) refl p q
 
   -- what is skipped to ends as the whole does
-  pub skip-ending : (i : CodeBytes) (k : ℕ) (p : CodeBytes) → skipAt size take bytes s i k ≡ some p → (scan take bytes s p).ending ≡ (scan take bytes s i).ending
+  pub skip-ending : (i : CodeBytes) (k : ℕ) (p : CodeBytes) → skip_at size take bytes s i k ≡ some p → (scan take bytes s p).ending ≡ (scan take bytes s i).ending
   skip-ending i k p e = by_codes t s (λ j. (m : ℕ) → Same j m) same_here i.0 k p e

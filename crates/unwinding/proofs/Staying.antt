@@ -4,14 +4,14 @@
 use mathlib.Core.Path.{◌≡◌, refl, sym, ◌∙◌}
 use mathlib.Core.List.{List, [], ◌∷◌}
 use mathlib.Core.Bool.{Bool, true, false, true≢false}
-use Rattle.words.specs.Refusals.{number, verdictNumber}
+use Rattle.words.specs.Refusals.{number, verdict_number}
 use Rattle.words.specs.declared.Refusal.{Refusal}
 use Rattle.words.specs.Answer.{Res, ok, refuse, ◌>>=◌, ◌>>◌, need, verdict}
 use Rattle.unwinding.specs.CodeList.{run}
-use Rattle.unwinding.specs.Extent.{ofExtent}
+use Rattle.unwinding.specs.Extent.{of_extent}
 
 abbrev pub Stays : {A : Type 0} → Res A → Res A → Type 0
-Stays x y = ofExtent (verdictNumber (verdict x)) ≡ false → y ≡ x
+Stays x y = of_extent (verdict_number (verdict x)) ≡ false → y ≡ x
 
 pub stays-given : {A : Type 0} (x y : Res A) (a : A) → Stays x y → x ≡ ok a → y ≡ ok a
 stays-given x y a h e = h (rw e refl) ∙ e
@@ -21,7 +21,7 @@ stays-bind (ok a) y f g h k e = rw (h refl) (k a refl e)
 stays-bind (refuse r) y f g h k e = rw (h e) refl
 
 -- a test of how much is lent, which may turn true; and any other test, which is the same
-pub stays-need : {B : Type 0} (s t : Bool) (r : Refusal) (x y : Res B) → ofExtent (number r) ≡ true → (s ≡ true → t ≡ true) → (s ≡ true → Stays x y) → Stays (need s r >> x) (need t r >> y)
+pub stays-need : {B : Type 0} (s t : Bool) (r : Refusal) (x y : Res B) → of_extent (number r) ≡ true → (s ≡ true → t ≡ true) → (s ≡ true → Stays x y) → Stays (need s r >> x) (need t r >> y)
 stays-need true t r x y o h k e = rw (h refl) (k refl e)
 stays-need false t r x y o h k e = absurd (true≢false (sym o ∙ e))
 

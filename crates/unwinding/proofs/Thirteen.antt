@@ -6,7 +6,7 @@ use lib.Dec.{eqb}
 use Rattle.words.specs.declared.Refusal.{Refusal}
 use Rattle.words.specs.declared.Refusal.TheVariants.{SpSame}
 use Rattle.words.specs.Answer.{Res, ok, refuse}
-use Rattle.unwinding.specs.Trail.{Walker, FrameOf, nextFrame}
+use Rattle.unwinding.specs.Trail.{Walker, FrameOf, next_frame}
 
 module _ (W : Walker) (frame_of : FrameOf W) (first : Bool) (g : W.State) where
   open W use {sp, Caller, to}
@@ -20,35 +20,35 @@ module _ (W : Walker) (frame_of : FrameOf W) (first : Bool) (g : W.State) where
     passed : (c : Caller) → frame_of first g ≡ ok c → passes c ≡ true → Next (ok c)
     still : (c : Caller) → frame_of first g ≡ ok c → passes c ≡ false → Next (refuse SpSame)
 
-  pub next-is : {x : Res Caller} → Next x → nextFrame W frame_of first g ≡ x
-  unfolding nextFrame
+  pub next-is : {x : Res Caller} → Next x → next_frame W frame_of first g ≡ x
+  unfolding next_frame
   next-is (refused r e) = rw e refl
   next-is (passed c e p) = rw (e, p) refl
   next-is (still c e p) = rw (e, p) refl
 
-  pub next : Next (nextFrame W frame_of first g)
+  pub next : Next (next_frame W frame_of first g)
   next = go (frame_of first g) refl
     where
-      of : {x : Res Caller} → Next x → Next (nextFrame W frame_of first g)
+      of : {x : Res Caller} → Next x → Next (next_frame W frame_of first g)
       of n = subst Next (sym (next-is n)) n
 
-      by-sp : (c : Caller) → frame_of first g ≡ ok c → (b : Bool) → passes c ≡ b → Next (nextFrame W frame_of first g)
+      by-sp : (c : Caller) → frame_of first g ≡ ok c → (b : Bool) → passes c ≡ b → Next (next_frame W frame_of first g)
       by-sp c e true p = of (passed c e p)
       by-sp c e false p = of (still c e p)
 
-      go : (x : Res Caller) → frame_of first g ≡ x → Next (nextFrame W frame_of first g)
+      go : (x : Res Caller) → frame_of first g ≡ x → Next (next_frame W frame_of first g)
       go (ok c) e = by-sp c e (passes c) refl
       go (refuse r) e = of (refused r e)
 
-  pub next-kept : ((c : Caller) → frame_of first g ≡ ok c → passes c ≡ true) → frame_of first g ≡ nextFrame W frame_of first g
+  pub next-kept : ((c : Caller) → frame_of first g ≡ ok c → passes c ≡ true) → frame_of first g ≡ next_frame W frame_of first g
   next-kept h = go (frame_of first g) refl
     where
-      go : (x : Res Caller) → frame_of first g ≡ x → frame_of first g ≡ nextFrame W frame_of first g
+      go : (x : Res Caller) → frame_of first g ≡ x → frame_of first g ≡ next_frame W frame_of first g
       go (ok c) e = e ∙ sym (next-is (passed c e (h c e)))
       go (refuse r) e = e ∙ sym (next-is (refused r e))
 
   -- one that unwound passed
-  pub next-was : (c : Caller) → nextFrame W frame_of first g ≡ ok c → (frame_of first g ≡ ok c) × (passes c ≡ true)
+  pub next-was : (c : Caller) → next_frame W frame_of first g ≡ ok c → (frame_of first g ≡ ok c) × (passes c ≡ true)
   next-was c e = go (subst Next e next)
     where
       go : {c : Caller} → Next (ok c) → (frame_of first g ≡ ok c) × (passes c ≡ true)

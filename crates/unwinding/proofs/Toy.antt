@@ -7,7 +7,7 @@ use mathlib.Core.List.{List, ◌∷◌, []}
 use mathlib.Core.Bool.{Bool, true, false}
 use lib.ListN.{drop, length}
 use lib.Dec.{leb, eqb}
-use Rattle.words.specs.Units.{codeBytes}
+use Rattle.words.specs.Units.{code_bytes}
 use Rattle.words.specs.declared.CodeBytes.{CodeBytes}
 use Rattle.words.specs.declared.Place.{Place}
 use Rattle.words.specs.declared.Place.TheVariants.{Prologue, Body, Epilogue}
@@ -23,10 +23,10 @@ use Rattle.unwinding.specs.declared.Start.TheVariants.{From, Ending}
 use Rattle.unwinding.proofs.Opened.{opened}
 
 abbrev read : List ℕ → CodeBytes → Res (Codes ℕ)
-read s i = if leb i.0 (length s) then ok (record { list = drop i.0 s; endSize = 2 }) else refuse (BadCodes i)
+read s i = if leb i.0 (length s) then ok (record { list = drop i.0 s; end_size = 2 }) else refuse (BadCodes i)
 
 abbrev scope : Start → (condition index : ℕ) → Scope
-scope a c i = record { start = a; condition = c; index = codeBytes i }
+scope a c i = record { start = a; condition = c; index = code_bytes i }
 
 abbrev shape : (fragment : Bool) → List Scope → Shape
 shape f ss = record { span = 40; codes = 2 ∷ 4 ∷ 2 ∷ []; fragment = f; scopes = ss; handler = 0 }
@@ -127,7 +127,7 @@ unfolding opened
 layout-touching = refl
 
 -- 6 of a later scope before 7 of an earlier one; 7 before 9
-order-6-7 : at (shape false (scope (From 32) always 0 ∷ scope (From 10) always 9 ∷ [])) 20 ≡ refuse (BadCodes (codeBytes 9))
+order-6-7 : at (shape false (scope (From 32) always 0 ∷ scope (From 10) always 9 ∷ [])) 20 ≡ refuse (BadCodes (code_bytes 9))
 unfolding opened
 order-6-7 = refl
 
@@ -143,6 +143,6 @@ order-7-prologue : at (short []) 2 ≡ refuse BadLayout
 unfolding opened
 order-7-prologue = refl
 
-order-6-prologue : at (short (scope (From 0) always 8 ∷ scope (From 0) always 9 ∷ [])) 2 ≡ refuse (BadCodes (codeBytes 8))
+order-6-prologue : at (short (scope (From 0) always 8 ∷ scope (From 0) always 9 ∷ [])) 2 ≡ refuse (BadCodes (code_bytes 8))
 unfolding opened
 order-6-prologue = refl

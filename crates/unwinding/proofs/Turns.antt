@@ -7,19 +7,19 @@ use lib.Dec.{leb, eqb}
 use borrow.Author.Tests.{leb-true, leb-false, le-leb, lt-leb}
 use Rattle.words.specs.declared.Refusal.{Refusal}
 use Rattle.words.specs.Answer.{Res, ok, refuse}
-use Rattle.unwinding.specs.Trail.{Walker, FrameOf, nextFrame}
-use Rattle.unwinding.specs.as_coded.Turn.{Standing, Turn, halted, gone, turn_of}
+use Rattle.unwinding.specs.Trail.{Walker, FrameOf, next_frame}
+use Rattle.unwinding.specs.AsCoded.Turn.{Standing, Turn, halted, gone, turn_of}
 
 module _ (W : Walker) (frame_of : FrameOf W) (room : ℕ) (s : Standing W) where
-  open W use {Caller, ended, full, refusedAt}
+  open W use {Caller, ended, full, refused_at}
 
   abbrev x : Res Caller
-  x = nextFrame W frame_of (eqb s.frames 0) s.at
+  x = next_frame W frame_of (eqb s.frames 0) s.at
 
   pub data Turns : Turn W → Type 0 where
     at-end : s.end ≡ true → Turns (halted W s ended)
     at-full : s.end ≡ false → room ≤ s.frames → Turns (halted W s full)
-    at-refusal : (r : Refusal) → s.end ≡ false → s.frames < room → x ≡ refuse r → Turns (halted W s (refusedAt s.at r))
+    at-refusal : (r : Refusal) → s.end ≡ false → s.frames < room → x ≡ refuse r → Turns (halted W s (refused_at s.at r))
     goes : (c : Caller) → s.end ≡ false → s.frames < room → x ≡ ok c → Turns (gone W s c)
 
   pub turn_is : {r : Turn W} → Turns r → r ≡ turn_of W frame_of room s

@@ -11,8 +11,8 @@ use borrow.Author.Tests.{eq-eqb, ne_eqb}
 use Rattle.words.specs.Refusals.{number}
 use Rattle.words.specs.declared.Refusal.{Refusal}
 use Rattle.words.specs.Answer.{ok, refuse}
-use Rattle.unwinding.specs.Extent.{ofExtent}
-use Rattle.unwinding.specs.Trail.{Walker, FrameOf, Trail, listed, filled, nextFrame, walkFrom}
+use Rattle.unwinding.specs.Extent.{of_extent}
+use Rattle.unwinding.specs.Trail.{Walker, FrameOf, Trail, listed, filled, next_frame, walk_from}
 use Rattle.unwinding.proofs.Staying.{Stays, stays-given, stays-bind}
 use Rattle.unwinding.proofs.Walks.{Walks, no_room, refused, last, more, walks, walks-is}
 
@@ -40,12 +40,12 @@ pub record Shorter (W : Walker) (room : ℕ) (w w' : Trail W) : Type 0 where
   pub whole : length w.frames < room → w ≡ w'
 
 module _ (W : Walker) (frame_of : FrameOf W) where
-  open W use {State, listedAs, place}
+  open W use {State, listed_as, place}
 
-  cut : {room : ℕ} {first : Bool} {g : State} {w : Trail W} (room' : ℕ) → room ≤ room' → Walks W frame_of room first g w → Shorter W room w (walkFrom W frame_of room' first g)
-  unfolding walkFrom
+  cut : {room : ℕ} {first : Bool} {g : State} {w : Trail W} (room' : ℕ) → room ≤ room' → Walks W frame_of room first g w → Shorter W room w (walk_from W frame_of room' first g)
+  unfolding walk_from
   cut {first} {g} room' h no_room =
-      record { begins = record { rest = (walkFrom W frame_of room' first g).frames; whole = refl }; frames = omega arith; whole = λ l. absurd (omega arith) }
+      record { begins = record { rest = (walk_from W frame_of room' first g).frames; whole = refl }; frames = omega arith; whole = λ l. absurd (omega arith) }
   cut zero h (refused r e) = absurd (omega arith)
   cut zero h (last c e z) = absurd (omega arith)
   cut zero h (more c e z below) = absurd (omega arith)
@@ -54,56 +54,56 @@ module _ (W : Walker) (frame_of : FrameOf W) where
   cut {g} (suc n) h (more {w} c e z below) =
       let s = cut n (omega arith) below in
       rw (e, ne_eqb _ _ z)
-      (record { begins = begins-on (listedAs g (place c)) _ _ s.begins; frames = omega (arith, s.frames); whole = λ l. ap (listed W g c) (s.whole (omega arith)) })
+      (record { begins = begins-on (listed_as g (place c)) _ _ s.begins; frames = omega (arith, s.frames); whole = λ l. ap (listed W g c) (s.whole (omega arith)) })
 
-  pub shorter : (room room' : ℕ) → room ≤ room' → (first : Bool) (g : State) → Shorter W room (walkFrom W frame_of room first g) (walkFrom W frame_of room' first g)
+  pub shorter : (room room' : ℕ) → room ≤ room' → (first : Bool) (g : State) → Shorter W room (walk_from W frame_of room first g) (walk_from W frame_of room' first g)
   shorter room room' h first g = cut room' h (walks W frame_of room first g)
 
 -- ---- other frames
-module _ (W : Walker) (f f' : FrameOf W) (given : (first : Bool) (g : W.State) (c : W.Caller) → nextFrame W f first g ≡ ok c → nextFrame W f' first g ≡ ok c) where
-  open W use {State, place, listedAs, refusedAt}
+module _ (W : Walker) (f f' : FrameOf W) (given : (first : Bool) (g : W.State) (c : W.Caller) → next_frame W f first g ≡ ok c → next_frame W f' first g ≡ ok c) where
+  open W use {State, place, listed_as, refused_at}
 
   -- the frames that a walk lists before it stops come first in the other
-  begun-by : {room : ℕ} {first : Bool} {g : State} {w : Trail W} → Walks W f room first g w → Begins w.frames (walkFrom W f' room first g).frames
-  unfolding walkFrom
+  begun-by : {room : ℕ} {first : Bool} {g : State} {w : Trail W} → Walks W f room first g w → Begins w.frames (walk_from W f' room first g).frames
+  unfolding walk_from
   begun-by no_room = record { rest = []; whole = refl }
-  begun-by {room} {first} {g} (refused r e) = record { rest = (walkFrom W f' room first g).frames; whole = refl }
+  begun-by {room} {first} {g} (refused r e) = record { rest = (walk_from W f' room first g).frames; whole = refl }
   begun-by {first} {g} (last c e z) = rw (given first g c e, eq-eqb _ _ z) (record { rest = []; whole = refl })
-  begun-by {first} {g} (more c e z below) = rw (given first g c e, ne_eqb _ _ z) (begins-on (listedAs g (place c)) _ _ (begun-by below))
+  begun-by {first} {g} (more c e z below) = rw (given first g c e, ne_eqb _ _ z) (begins-on (listed_as g (place c)) _ _ (begun-by below))
 
-  listed-stay : (room : ℕ) (first : Bool) (g : State) → Begins (walkFrom W f room first g).frames (walkFrom W f' room first g).frames
+  listed-stay : (room : ℕ) (first : Bool) (g : State) → Begins (walk_from W f room first g).frames (walk_from W f' room first g).frames
   listed-stay room first g = begun-by (walks W f room first g)
 
   -- and all of it, where it does not stop by a refusal that may not stay
-  module _ (Kept : Refusal → Type 0) (kept : (first : Bool) (g : State) (r : Refusal) → nextFrame W f first g ≡ refuse r → Kept r → nextFrame W f' first g ≡ refuse r) where
-    stays : {room : ℕ} {first : Bool} {g : State} {w : Trail W} → ((h : State) (r : Refusal) → w.stop ≡ refusedAt h r → Kept r) → Walks W f room first g w → Walks W f' room first g w
+  module _ (Kept : Refusal → Type 0) (kept : (first : Bool) (g : State) (r : Refusal) → next_frame W f first g ≡ refuse r → Kept r → next_frame W f' first g ≡ refuse r) where
+    stays : {room : ℕ} {first : Bool} {g : State} {w : Trail W} → ((h : State) (r : Refusal) → w.stop ≡ refused_at h r → Kept r) → Walks W f room first g w → Walks W f' room first g w
     stays k no_room = no_room
     stays {first} {g} k (refused r e) = refused r (kept first g r e (k g r refl))
     stays {first} {g} k (last c e z) = last c (given first g c e) z
     stays {first} {g} k (more c e z below) = more c (given first g c e) z (stays k below)
 
-    pub walk-stays : (room : ℕ) (first : Bool) (g : State) → ((h : State) (r : Refusal) → (walkFrom W f room first g).stop ≡ refusedAt h r → Kept r)
-        → walkFrom W f' room first g ≡ walkFrom W f room first g
+    pub walk-stays : (room : ℕ) (first : Bool) (g : State) → ((h : State) (r : Refusal) → (walk_from W f room first g).stop ≡ refused_at h r → Kept r)
+        → walk_from W f' room first g ≡ walk_from W f room first g
     walk-stays room first g k = walks-is W f' (stays k (walks W f room first g))
 
 -- frames that are all alike make one walk
-pub walk_same : (W : Walker) (f f' : FrameOf W) → ((first : Bool) (g : W.State) → nextFrame W f first g ≡ nextFrame W f' first g)
-    → (room : ℕ) (first : Bool) (g : W.State) → walkFrom W f' room first g ≡ walkFrom W f room first g
+pub walk_same : (W : Walker) (f f' : FrameOf W) → ((first : Bool) (g : W.State) → next_frame W f first g ≡ next_frame W f' first g)
+    → (room : ℕ) (first : Bool) (g : W.State) → walk_from W f' room first g ≡ walk_from W f room first g
 walk_same W f f' h room first g =
     walk-stays W f f' (λ b s c e. sym (h b s) ∙ e) (λ r. Unit {0}) (λ b s r e k. sym (h b s) ∙ e) room first g (λ s r e. tt)
 
 -- ---- the same frames with more lent: those that stay, one by one, make a walk that stays
 module _ (W : Walker) (f f' : FrameOf W) (frame-stays : (first : Bool) (g : W.State) → Stays (f first g) (f' first g)) where
-  next-stays : (first : Bool) (g : W.State) → Stays (nextFrame W f first g) (nextFrame W f' first g)
-  unfolding nextFrame
+  next-stays : (first : Bool) (g : W.State) → Stays (next_frame W f first g) (next_frame W f' first g)
+  unfolding next_frame
   next-stays first g = stays-bind (f first g) (f' first g) _ _ (frame-stays first g) (λ c p e. refl)
 
-  next-given : (first : Bool) (g : W.State) (c : W.Caller) → nextFrame W f first g ≡ ok c → nextFrame W f' first g ≡ ok c
-  next-given first g c = stays-given (nextFrame W f first g) (nextFrame W f' first g) c (next-stays first g)
+  next-given : (first : Bool) (g : W.State) (c : W.Caller) → next_frame W f first g ≡ ok c → next_frame W f' first g ≡ ok c
+  next-given first g c = stays-given (next_frame W f first g) (next_frame W f' first g) c (next-stays first g)
 
-  pub listed-wider : (room : ℕ) (first : Bool) (g : W.State) → Begins (walkFrom W f room first g).frames (walkFrom W f' room first g).frames
+  pub listed-wider : (room : ℕ) (first : Bool) (g : W.State) → Begins (walk_from W f room first g).frames (walk_from W f' room first g).frames
   listed-wider = listed-stay W f f' next-given
 
-  pub walk-wider : (room : ℕ) (first : Bool) (g : W.State) → ((h : W.State) (r : Refusal) → (walkFrom W f room first g).stop ≡ W.refusedAt h r → ofExtent (number r) ≡ false)
-      → walkFrom W f' room first g ≡ walkFrom W f room first g
-  walk-wider = walk-stays W f f' next-given (λ r. ofExtent (number r) ≡ false) (λ first g r e k. next-stays first g (rw e k) ∙ e)
+  pub walk-wider : (room : ℕ) (first : Bool) (g : W.State) → ((h : W.State) (r : Refusal) → (walk_from W f room first g).stop ≡ W.refused_at h r → of_extent (number r) ≡ false)
+      → walk_from W f' room first g ≡ walk_from W f room first g
+  walk-wider = walk-stays W f f' next-given (λ r. of_extent (number r) ≡ false) (λ first g r e k. next-stays first g (rw e k) ∙ e)

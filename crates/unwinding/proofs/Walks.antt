@@ -10,36 +10,36 @@ use native.Mathlib.Omega.{arith}
 use borrow.Author.Tests.{eqb-true, eqb-false, eq-eqb, ne_eqb}
 use Rattle.words.specs.declared.Refusal.{Refusal}
 use Rattle.words.specs.Answer.{Res, ok, refuse}
-use Rattle.unwinding.specs.Trail.{Walker, FrameOf, Trail, stopped, listed, nextFrame, walkFrom}
+use Rattle.unwinding.specs.Trail.{Walker, FrameOf, Trail, stopped, listed, next_frame, walk_from}
 
 module _ (W : Walker) (frame_of : FrameOf W) where
-  open W use {State, pc, Caller, to, ended, full, refusedAt}
+  open W use {State, pc, Caller, to, ended, full, refused_at}
 
   pub data Walks : (room : ℕ) → (first : Bool) → State → Trail W → Type 0 where
     no_room : {first : Bool} {g : State} → Walks zero first g (stopped W full)
-    refused : {n : ℕ} {first : Bool} {g : State} (r : Refusal) → nextFrame W frame_of first g ≡ refuse r → Walks (suc n) first g (stopped W (refusedAt g r))
-    last : {n : ℕ} {first : Bool} {g : State} (c : Caller) → nextFrame W frame_of first g ≡ ok c → pc (to c) ≡ 0 → Walks (suc n) first g (listed W g c (stopped W ended))
-    more : {n : ℕ} {first : Bool} {g : State} {w : Trail W} (c : Caller) → nextFrame W frame_of first g ≡ ok c → pc (to c) ≢ 0 → Walks n false (to c) w → Walks (suc n) first g (listed W g c w)
+    refused : {n : ℕ} {first : Bool} {g : State} (r : Refusal) → next_frame W frame_of first g ≡ refuse r → Walks (suc n) first g (stopped W (refused_at g r))
+    last : {n : ℕ} {first : Bool} {g : State} (c : Caller) → next_frame W frame_of first g ≡ ok c → pc (to c) ≡ 0 → Walks (suc n) first g (listed W g c (stopped W ended))
+    more : {n : ℕ} {first : Bool} {g : State} {w : Trail W} (c : Caller) → next_frame W frame_of first g ≡ ok c → pc (to c) ≢ 0 → Walks n false (to c) w → Walks (suc n) first g (listed W g c w)
 
-  pub walks : (room : ℕ) (first : Bool) (g : State) → Walks room first g (walkFrom W frame_of room first g)
-  unfolding walkFrom
+  pub walks : (room : ℕ) (first : Bool) (g : State) → Walks room first g (walk_from W frame_of room first g)
+  unfolding walk_from
   walks zero first g = no_room
-  walks (suc n) first g = go (λ h. walks n false h) (nextFrame W frame_of first g) refl
+  walks (suc n) first g = go (λ h. walks n false h) (next_frame W frame_of first g) refl
     where
       Whole : Type 0
-      Whole = Walks (suc n) first g (walkFrom W frame_of (suc n) first g)
+      Whole = Walks (suc n) first g (walk_from W frame_of (suc n) first g)
 
-      on : ((h : State) → Walks n false h (walkFrom W frame_of n false h)) → (c : Caller) → nextFrame W frame_of first g ≡ ok c → (b : Bool) → eqb (pc (to c)) 0 ≡ b → Whole
+      on : ((h : State) → Walks n false h (walk_from W frame_of n false h)) → (c : Caller) → next_frame W frame_of first g ≡ ok c → (b : Bool) → eqb (pc (to c)) 0 ≡ b → Whole
       on below c e true q = rw (e, q) (last c e (eqb-true _ _ q))
       on below c e false q = rw (e, q) (more c e (eqb-false _ _ q) (below (to c)))
 
-      go : ((h : State) → Walks n false h (walkFrom W frame_of n false h)) → (x : Res Caller) → nextFrame W frame_of first g ≡ x → Whole
+      go : ((h : State) → Walks n false h (walk_from W frame_of n false h)) → (x : Res Caller) → next_frame W frame_of first g ≡ x → Whole
       go below (ok c) e = on below c e (eqb (pc (to c)) 0) refl
       go below (refuse r) e = rw e (refused r e)
 
   -- so that a chain of calls, frame by frame, is the walk
-  pub walks-is : {room : ℕ} {first : Bool} {g : State} {w : Trail W} → Walks room first g w → walkFrom W frame_of room first g ≡ w
-  unfolding walkFrom
+  pub walks-is : {room : ℕ} {first : Bool} {g : State} {w : Trail W} → Walks room first g w → walk_from W frame_of room first g ≡ w
+  unfolding walk_from
   walks-is no_room = refl
   walks-is (refused r e) = rw e refl
   walks-is (last c e z) = rw (e, eq-eqb _ _ z) refl
@@ -52,5 +52,5 @@ module _ (W : Walker) (frame_of : FrameOf W) where
   room-kept (last c e z) = omega arith
   room-kept (more c e z below) = omega (arith, room-kept below)
 
-  pub walk-room : (room : ℕ) (first : Bool) (g : State) → length (walkFrom W frame_of room first g).frames ≤ room
+  pub walk-room : (room : ℕ) (first : Bool) (g : State) → length (walk_from W frame_of room first g).frames ≤ room
   walk-room room first g = room-kept (walks room first g)

@@ -6,7 +6,7 @@ use Rattle.words.specs.Answer.{Res, ok, ◌>>=◌, if◌then◌else◌}
 -- the codes before an end code, and the size of the end code's instruction
 pub record Codes (C : Type 0) : Type 0 where
   pub list : List C
-  pub endSize : ℕ
+  pub end_size : ℕ
 
 module _ {C : Type 0} (size : C → ℕ) where
   unfoldable pub total : List C → ℕ

@@ -8,4 +8,4 @@ pub mod Listed
 pub mod Trail
 pub mod Extent
 pub mod Singly
-pub mod as_coded
+pub mod AsCoded

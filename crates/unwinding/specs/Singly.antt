@@ -17,9 +17,9 @@ pub record Alone (W : Walker) : Type 0 where
   pub place : Place
   pub codes : ℕ
 
-abbrev pub aloneOf : (W : Walker) → W.State → Res W.Caller → Alone W
-aloneOf W g (ok c) = record { verdict = Given; to = W.to c; place = W.place c; codes = W.codes c }
-aloneOf W g (refuse r) = record { verdict = Refused r; to = g; place = Leaf; codes = 0 }
+abbrev pub alone_of : (W : Walker) → W.State → Res W.Caller → Alone W
+alone_of W g (ok c) = record { verdict = Given; to = W.to c; place = W.place c; codes = W.codes c }
+alone_of W g (refuse r) = record { verdict = Refused r; to = g; place = Leaf; codes = 0 }
 
 -- a walk's answer, and with it the lent list as the walk leaves it
 pub record Walked (W : Walker) : Type 0 where
@@ -31,8 +31,8 @@ pub record WalkedAll (W : Walker) : Type 0 where
   pub walked : Walked W
   pub list : List W.Frame
 
-abbrev pub walkedAll : (W : Walker) → List W.Frame → Trail W → WalkedAll W
-walkedAll W lent w = record { walked = record { stop = w.stop; frames = length w.frames; codes = w.codes }; list = filled W lent w }
+abbrev pub walked_all : (W : Walker) → List W.Frame → Trail W → WalkedAll W
+walked_all W lent w = record { walked = record { stop = w.stop; frames = length w.frames; codes = w.codes }; list = filled W lent w }
 
 -- the records of a lent list that a walk has not filled are as they were
 pub record Untouched (W : Walker) (lent : List W.Frame) (w : WalkedAll W) : Type 0 where
@@ -51,16 +51,16 @@ pub record Cut (W : Walker) (room : ℕ) (w w' : WalkedAll W) : Type 0 where
   pub whole : w.walked.frames < room → w.walked ≡ w'.walked
 
 module _ (W : Walker) (unwind : W.State → Alone W) where
-  open W use {State, pc, sp, Frame, listedAs, Stop, ended, full, refusedAt}
+  open W use {State, pc, sp, Frame, listed_as, Stop, ended, full, refused_at}
 
   -- the state k frames up, each frame unwound by itself, and the codes that run in those k
   unfoldable pub reached : State → (k : ℕ) → State
   reached g zero = g
   reached g (suc k) = reached (unwind g).to k
 
-  unfoldable pub codesRun : State → (k : ℕ) → ℕ
-  codesRun g zero = 0
-  codesRun g (suc k) = (unwind g).codes + codesRun (unwind g).to k
+  unfoldable pub codes_run : State → (k : ℕ) → ℕ
+  codes_run g zero = 0
+  codes_run g (suc k) = (unwind g).codes + codes_run (unwind g).to k
 
   -- why the frame at g, with n before it, is refused: by itself; a later one by 12, as a leaf, or by 13, if it does not change SP (RULES 7.6)
   pub data Why (g : State) (n : ℕ) : Refusal → Type 0 where
@@ -72,7 +72,7 @@ module _ (W : Walker) (unwind : W.State → Alone W) where
   pub data Stops (g : State) (n room : ℕ) : Stop → Type 0 where
     at-end : 0 < n → pc g ≡ 0 → Stops g n room ended
     at-full : n ≡ room → (0 < n → pc g ≢ 0) → Stops g n room full
-    at-refusal : (r : Refusal) → n < room → (0 < n → pc g ≢ 0) → Why g n r → Stops g n room (refusedAt g r)
+    at-refusal : (r : Refusal) → n < room → (0 < n → pc g ≢ 0) → Why g n r → Stops g n room (refused_at g r)
 
   -- a later frame that is listed is neither an end nor 12 nor 13
   pub record Onward (g : State) : Type 0 where
@@ -83,7 +83,7 @@ module _ (W : Walker) (unwind : W.State → Alone W) where
   -- a walk goes by single frames
   pub record Follows (g : State) (room : ℕ) (w : WalkedAll W) : Type 0 where
     pub given : (k : ℕ) → k < w.walked.frames → (unwind (reached g k)).verdict ≡ Given
-    pub shown : (k : ℕ) (none : Frame) → k < w.walked.frames → get_or w.list k none ≡ listedAs (reached g k) (unwind (reached g k)).place
-    pub codes : w.walked.codes ≡ codesRun g w.walked.frames
+    pub shown : (k : ℕ) (none : Frame) → k < w.walked.frames → get_or w.list k none ≡ listed_as (reached g k) (unwind (reached g k)).place
+    pub codes : w.walked.codes ≡ codes_run g w.walked.frames
     pub on : (k : ℕ) → 0 < k → k < w.walked.frames → Onward (reached g k)
     pub stop : Stops (reached g w.walked.frames) w.walked.frames room w.walked.stop

@@ -2,7 +2,7 @@
 use Rattle.std.specs.Prelude.{ℕ, zero, suc, ◌+◌, ◌-◌, List, [], ◌∷◌, leb, eqb}
 use Rattle.std.proofs.Math.Option.{Option, none, some}
 use Rattle.words.specs.declared.CodeBytes.{CodeBytes}
-use Rattle.words.specs.Units.{codeBytes}
+use Rattle.words.specs.Units.{code_bytes}
 use Rattle.words.specs.Answer.{if◌then◌else◌}
 use Rattle.unwinding.specs.Taking.{Taken, one, last, bad}
 
@@ -16,11 +16,11 @@ module _ {C : Type 0} (size : C → ℕ) where
   module _ (take : (at : ℕ) → (left : List ℕ) → Taken C) (bytes : (first : ℕ) → ℕ) where
     -- after `skip` bytes of those that are left: the index behind codes whose instructions take n bytes; none if n bytes end inside an
     -- instruction or behind the list
-    unfoldable pub skipFrom : (at : ℕ) → (left : List ℕ) → (skip n : ℕ) → Option CodeBytes
-    skipFrom at [] skip n = if eqb n 0 then some (codeBytes (at + skip)) else none
-    skipFrom at (b ∷ s) (suc k) n = skipFrom (at + 1) s k n
-    skipFrom at (b ∷ s) zero n =
-        if eqb n 0 then some (codeBytes at) else over (take at (b ∷ s)) n (λ next m. skipFrom (at + 1) s (bytes b - 1) m)
+    unfoldable pub skip_from : (at : ℕ) → (left : List ℕ) → (skip n : ℕ) → Option CodeBytes
+    skip_from at [] skip n = if eqb n 0 then some (code_bytes (at + skip)) else none
+    skip_from at (b ∷ s) (suc k) n = skip_from (at + 1) s k n
+    skip_from at (b ∷ s) zero n =
+        if eqb n 0 then some (code_bytes at) else over (take at (b ∷ s)) n (λ next m. skip_from (at + 1) s (bytes b - 1) m)
 
-    abbrev pub skipAt : List ℕ → CodeBytes → (n : ℕ) → Option CodeBytes
-    skipAt s i n = skipFrom 0 s i.0 n
+    abbrev pub skip_at : List ℕ → CodeBytes → (n : ℕ) → Option CodeBytes
+    skip_at s i n = skip_from 0 s i.0 n

@@ -2,7 +2,7 @@
 use Rattle.std.specs.Prelude.{ℕ, zero, suc, ◌+◌, ◌-◌, List, [], ◌∷◌}
 use Rattle.words.specs.declared.CodeBytes.{CodeBytes}
 use Rattle.words.specs.declared.Refusal.TheVariants.{BadCodes}
-use Rattle.words.specs.Units.{codeBytes}
+use Rattle.words.specs.Units.{code_bytes}
 use Rattle.words.specs.Answer.{Res, ok, refuse, ◌>>=◌}
 use Rattle.unwinding.specs.CodeList.{Codes}
 
@@ -32,13 +32,13 @@ follow (bad i) rest = nothing i
 -- many bytes it has
 module _ {C : Type 0} (take : (at : ℕ) → (left : List ℕ) → Taken C) (bytes : (first : ℕ) → ℕ) where
   -- after `skip` bytes of those that are left: one code, and then the rest. An index past the bytes is what refusal 6 holds
-  unfoldable pub scanFrom : (at : ℕ) → (left : List ℕ) → (skip : ℕ) → Scan C
-  scanFrom at [] skip = nothing (codeBytes (at + skip))
-  scanFrom at (b ∷ s) (suc k) = scanFrom (at + 1) s k
-  scanFrom at (b ∷ s) zero = follow (take at (b ∷ s)) (λ next. scanFrom (at + 1) s (bytes b - 1))
+  unfoldable pub scan_from : (at : ℕ) → (left : List ℕ) → (skip : ℕ) → Scan C
+  scan_from at [] skip = nothing (code_bytes (at + skip))
+  scan_from at (b ∷ s) (suc k) = scan_from (at + 1) s k
+  scan_from at (b ∷ s) zero = follow (take at (b ∷ s)) (λ next. scan_from (at + 1) s (bytes b - 1))
 
   abbrev pub scan : List ℕ → CodeBytes → Scan C
-  scan s i = scanFrom 0 s i.0
+  scan s i = scan_from 0 s i.0
 
-  abbrev pub codesAt : List ℕ → CodeBytes → Res (Codes C)
-  codesAt s i = (scan s i).ending >>= λ n. ok (record { list = (scan s i).list; endSize = n })
+  abbrev pub codes_at : List ℕ → CodeBytes → Res (Codes C)
+  codes_at s i = (scan s i).ending >>= λ n. ok (record { list = (scan s i).list; end_size = n })

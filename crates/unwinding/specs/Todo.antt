@@ -19,19 +19,19 @@ module _ {C : Type 0} (size : C → ℕ) where
 -- `may`: whether an epilogue of a condition may be executing; 10 if not
 module _ {C : Type 0} (size : C → ℕ) (may : (condition : ℕ) → Bool) where
   -- inside an epilogue: 9 before 10 (RULES 9.54)
-  unfoldable pub inEpilogue : EpilogueOf C → (offset : ℕ) → Res (Todo C)
-  inEpilogue e o = do
-    t ← left size Epilogue e.codes.endSize (e.start + e.size - o) e.codes.list
+  unfoldable pub in_epilogue : EpilogueOf C → (offset : ℕ) → Res (Todo C)
+  in_epilogue e o = do
+    t ← left size Epilogue e.codes.end_size (e.start + e.size - o) e.codes.list
     need (may e.condition) Conditional
     ok t
 
   -- in the epilogue that the offset falls into, else in the body
-  unfoldable pub inEpilogues : List (EpilogueOf C) → (offset : ℕ) → (body : List C) → Res (Todo C)
-  inEpilogues [] o cs = ok (record { place = Body; codes = cs })
-  inEpilogues (e ∷ es) o cs =
-      let further = inEpilogues es o cs in
-      if leb e.start o && ltb o (e.start + e.size) then inEpilogue e o else further
+  unfoldable pub in_epilogues : List (EpilogueOf C) → (offset : ℕ) → (body : List C) → Res (Todo C)
+  in_epilogues [] o cs = ok (record { place = Body; codes = cs })
+  in_epilogues (e ∷ es) o cs =
+      let further = in_epilogues es o cs in
+      if leb e.start o && ltb o (e.start + e.size) then in_epilogue e o else further
 
   unfoldable pub todo : View C → (offset : ℕ) → Res (Todo C)
   todo v o =
-      if ltb o v.prologue then left size Prologue 0 o v.codes.list else inEpilogues v.epilogues o v.codes.list
+      if ltb o v.prologue then left size Prologue 0 o v.codes.list else in_epilogues v.epilogues o v.codes.list

@@ -18,12 +18,12 @@ pub record Walker : Type 1 where
   pub codes : Caller → ℕ
   -- a frame record, of a frame at this place
   pub Frame : Type 0
-  pub listedAs : State → Place → Frame
+  pub listed_as : State → Place → Frame
   -- why a walk stopped: a caller's pc was 0, the list was full, the frame was refused
   pub Stop : Type 0
   pub ended : Stop
   pub full : Stop
-  pub refusedAt : State → Refusal → Stop
+  pub refused_at : State → Refusal → Stop
 
 -- one frame, the first of a walk or a later one, by a machine's rules
 abbrev pub FrameOf : Walker → Type 0
@@ -36,13 +36,13 @@ pub record Trail (W : Walker) : Type 0 where
   pub codes : ℕ
 
 module _ (W : Walker) where
-  open W use {State, pc, sp, Caller, to, place, Frame, listedAs, Stop, ended, full, refusedAt}
+  open W use {State, pc, sp, Caller, to, place, Frame, listed_as, Stop, ended, full, refused_at}
 
   abbrev pub stopped : Stop → Trail W
   stopped s = record { frames = []; stop = s; codes = 0 }
 
   abbrev pub listed : State → Caller → Trail W → Trail W
-  listed g c w = record { frames = listedAs g (place c) ∷ w.frames; stop = w.stop; codes = W.codes c + w.codes }
+  listed g c w = record { frames = listed_as g (place c) ∷ w.frames; stop = w.stop; codes = W.codes c + w.codes }
 
   -- the lent list as a walk leaves it
   abbrev pub filled : List Frame → Trail W → List Frame
@@ -50,20 +50,20 @@ module _ (W : Walker) where
 
   module _ (frame_of : FrameOf W) where
     -- one frame of a walk, which must change SP if it is a later one (13; RULES 7.6)
-    unfoldable pub nextFrame : FrameOf W
-    nextFrame first g = do
+    unfoldable pub next_frame : FrameOf W
+    next_frame first g = do
       c ← frame_of first g
       need (first || not (eqb (sp (to c)) (sp g))) SpSame
       ok c
 
     -- the walk from this state, with room for so many more records
-    unfoldable pub walkFrom : (room : ℕ) → (first : Bool) → State → Trail W
-    walkFrom zero first g = stopped full
-    walkFrom (suc n) first g =
+    unfoldable pub walk_from : (room : ℕ) → (first : Bool) → State → Trail W
+    walk_from zero first g = stopped full
+    walk_from (suc n) first g =
         either
-        (nextFrame first g)
-        (λ r. stopped (refusedAt g r))
-        (λ c. let more = walkFrom n false (to c) in listed g c (if eqb (pc (to c)) 0 then stopped ended else more))
+        (next_frame first g)
+        (λ r. stopped (refused_at g r))
+        (λ c. let more = walk_from n false (to c) in listed g c (if eqb (pc (to c)) 0 then stopped ended else more))
 
     abbrev pub walk : (room : ℕ) → State → Trail W
-    walk room g = walkFrom room true g
+    walk room g = walk_from room true g

@@ -1,7 +1,7 @@
 -- A record that passes 6 and 7: its codes from index 0, its prologue's size (RULES 5.3) and its epilogues (RULES 5.4).
 use Rattle.std.specs.Prelude.{ℕ, ◌+◌, min, max, List, [], ◌∷◌, map, Bool, true, ◌&&◌, not, leb, ltb}
 use Rattle.words.specs.declared.CodeBytes.{CodeBytes}
-use Rattle.words.specs.Units.{codeBytes}
+use Rattle.words.specs.Units.{code_bytes}
 use Rattle.words.specs.declared.Refusal.TheVariants.{BadLayout}
 use Rattle.words.specs.Answer.{Res, ok, ◌>>=◌, ◌>>◌, need, if◌then◌else◌}
 use Rattle.unwinding.specs.CodeList.{Codes, total}
@@ -40,9 +40,9 @@ abbrev pub apart : Stretch → List Stretch → Bool
 apart a [] = true
 apart a (b ∷ rest) = not (shared a b) && apart a rest
 
-abbrev pub allApart : List Stretch → Bool
-allApart [] = true
-allApart (a ∷ rest) = apart a rest && allApart rest
+abbrev pub all_apart : List Stretch → Bool
+all_apart [] = true
+all_apart (a ∷ rest) = apart a rest && all_apart rest
 
 abbrev pub ascending : List ℕ → Bool
 ascending [] = true
@@ -53,7 +53,7 @@ ascending (a ∷ b ∷ rest) = ltb a b && ascending (b ∷ rest)
 abbrev pub fits : {C : Type 0} → (span prologue : ℕ) → List (EpilogueOf C) → Bool
 fits span p es =
     let all : List Stretch = record { from = 0; to = p } ∷ map stretch es in
-    inside span all && ascending (map (λ e. e.start) es) && allApart all
+    inside span all && ascending (map (λ e. e.start) es) && all_apart all
 
 -- a machine's codes have sizes, and are read from code bytes at an index, or refused by 6
 module _ {C : Type 0} (size : C → ℕ) (read : List ℕ → CodeBytes → Res (Codes C)) where
@@ -62,13 +62,13 @@ module _ {C : Type 0} (size : C → ℕ) (read : List ℕ → CodeBytes → Res 
   epilogues s (e ∷ es) = do
     c ← read s.codes e.index
     rest ← epilogues s es
-    let n = total size c.list + c.endSize
+    let n = total size c.list + c.end_size
     ok (record { start = start_of e.start s.span n; size = n; condition = e.condition; codes = c } ∷ rest)
 
   -- 6 before 7: every code list is read before the layout is looked at (RULES 9.54). The end code adds nothing to a prologue (RULES 3.4)
   unfoldable pub view : Shape → Res (View C)
   view s = do
-    c ← read s.codes (codeBytes 0)
+    c ← read s.codes (code_bytes 0)
     es ← epilogues s s.scopes
     let p = if s.fragment then 0 else total size c.list
     need (fits s.span p es) BadLayout

@@ -36,8 +36,8 @@ pub record Lending : Type 0 where
   pub stack : Bor (List ℕ)
   pub regs : Regs
 
-abbrev pub inputsOf : Lending → Inputs
-inputsOf i = inputs i.image i.pdata.now i.rva i.xdata.now i.base i.stack.now
+abbrev pub inputs_of : Lending → Inputs
+inputs_of i = inputs i.image i.pdata.now i.rva i.xdata.now i.base i.stack.now
 
 -- the same with no image, which the checks of the tables do not read
 abbrev pub unplaced : Lending → Inputs
@@ -57,17 +57,17 @@ module _ {M : Type 1} {𝓤 : Ura M} (𝓛 : Logic 𝓤) (κp κx κk : Lft) (qp
   -- what the three slices own, and the tokens of their lifetimes
   open 𝓛 use {A}
 
-  abbrev pub pOwn : Fml
-  pOwn = (ShrSlice (named 0) κp u8).own_val i.pdata (shr_slice_vals i.pdata)
+  abbrev pub p_own : Fml
+  p_own = (ShrSlice (named 0) κp u8).own_val i.pdata (shr_slice_vals i.pdata)
 
-  abbrev pub xOwn : Fml
-  xOwn = (ShrSlice (named 1) κx u8).own_val i.xdata (shr_slice_vals i.xdata)
+  abbrev pub x_own : Fml
+  x_own = (ShrSlice (named 1) κx u8).own_val i.xdata (shr_slice_vals i.xdata)
 
-  abbrev pub kOwn : Fml
-  kOwn = (ShrSlice (named 2) κk u8).own_val i.stack (shr_slice_vals i.stack)
+  abbrev pub k_own : Fml
+  k_own = (ShrSlice (named 2) κk u8).own_val i.stack (shr_slice_vals i.stack)
 
   abbrev pub three : Fml
-  three = fsep pOwn (fsep xOwn kOwn)
+  three = fsep p_own (fsep x_own k_own)
 
   abbrev pub toks : Item 𝓤
   toks = ‵ (flft κp qp) ⊛ (‵ (flft κx qx) ⊛ (‵ (flft κk qk) ⊛ ‵ ftrue))
@@ -90,7 +90,7 @@ module _ {M : Type 1} {𝓤 : Ura M} (𝓛 : Logic 𝓤) (κp κx κk : Lft) (qp
 
   -- as parameters: the tables' and, before them, the image; the rest P behind
   abbrev pub tabled : Fml → Fml
-  tabled P = fsep pOwn (fsep (u32.own_val i.rva (vint w32 i.rva ∷ [])) (fsep xOwn (fsep (u32.own_val i.base (vint w32 i.base ∷ [])) (fsep kOwn P))))
+  tabled P = fsep p_own (fsep (u32.own_val i.rva (vint w32 i.rva ∷ [])) (fsep x_own (fsep (u32.own_val i.base (vint w32 i.base ∷ [])) (fsep k_own P))))
 
   abbrev pub lent : Fml → Fml
   lent P = fsep (u32.own_val i.image (vint w32 i.image ∷ [])) (tabled P)
@@ -102,8 +102,8 @@ module _ {M : Type 1} {𝓤 : Ura M} (𝓛 : Logic 𝓤) (κp κx κk : Lft) (qp
       move ! (1 ∷ 3 ∷ []) $ fjoin ! $ owned ! u32 (Is u32) (uint_Makes 𝓛 w32) i.base _ (refl, fit.base) $ fjoin ! $ move ! (1 ∷ 0 ∷ []) $ fjoin ! $
       owned ! u32 (Is u32) (uint_Makes 𝓛 w32) i.rva _ (refl, fit.rva) $ fjoin ! $ move ! (1 ∷ 0 ∷ []) $ fjoin ! $ done !
 
-  pub inputs_in : Fit i → (P : Fml) → ent 𝓤 (sep 𝓤 (sem 𝓛 three) (sem 𝓛 P)) (sem 𝓛 (lent P))
-  inputs_in fit P =
+  pub inputs_in_lem : Fit i → (P : Fml) → ent 𝓤 (sep 𝓤 (sem 𝓛 three) (sem 𝓛 P)) (sem 𝓛 (lent P))
+  inputs_in_lem fit P =
       qed 𝓛 (‵ three ∷ ‵ P ∷ []) ∵ use2 𝓛 (‵ (tabled P)) (tables-in fit P) $ owned ! u32 (Is u32) (uint_Makes 𝓛 w32) i.image _ (refl, fit.image) $ fjoin ! $ done !
 
   pub inputs-out : (P : Fml) → ent 𝓤 (sem 𝓛 (lent P)) (sep 𝓤 (sem 𝓛 three) (sem 𝓛 P))
@@ -114,8 +114,8 @@ module _ {M : Type 1} {𝓤 : Ura M} (𝓛 : Logic 𝓤) (κp κx κk : Lft) (qp
 
   pub twice : ent 𝓤 (sem 𝓛 three) (sep 𝓤 (sem 𝓛 three) (sem 𝓛 three))
   twice =
-      qed 𝓛 (‵ three ∷ []) ∵ fsplit ! $ use1 𝓛 (‵ pOwn ⊛ ‵ pOwn) ((shr_slice_copy 𝓛 (named 0) κp u8).twice i.pdata (shr_slice_vals i.pdata)) $ split ! $ move ! (2 ∷ []) $ fsplit ! $
-      use1 𝓛 (‵ xOwn ⊛ ‵ xOwn) ((shr_slice_copy 𝓛 (named 1) κx u8).twice i.xdata (shr_slice_vals i.xdata)) $ split ! $ move ! (2 ∷ []) $
-      use1 𝓛 (‵ kOwn ⊛ ‵ kOwn) ((shr_slice_copy 𝓛 (named 2) κk u8).twice i.stack (shr_slice_vals i.stack)) $ split ! $
+      qed 𝓛 (‵ three ∷ []) ∵ fsplit ! $ use1 𝓛 (‵ p_own ⊛ ‵ p_own) ((shr_slice_copy 𝓛 (named 0) κp u8).twice i.pdata (shr_slice_vals i.pdata)) $ split ! $ move ! (2 ∷ []) $ fsplit ! $
+      use1 𝓛 (‵ x_own ⊛ ‵ x_own) ((shr_slice_copy 𝓛 (named 1) κx u8).twice i.xdata (shr_slice_vals i.xdata)) $ split ! $ move ! (2 ∷ []) $
+      use1 𝓛 (‵ k_own ⊛ ‵ k_own) ((shr_slice_copy 𝓛 (named 2) κk u8).twice i.stack (shr_slice_vals i.stack)) $ split ! $
       -- [k; k; x; x; p; p]
       move ! (2 ∷ 0 ∷ []) $ fjoin ! $ move ! (3 ∷ 0 ∷ []) $ fjoin ! $ move ! (2 ∷ 1 ∷ []) $ fjoin ! $ move ! (2 ∷ 0 ∷ []) $ fjoin ! $ frame ! $ done !

@@ -14,34 +14,34 @@ use Rattle.unwinding.proofs.Thirteen.{passes, still, next-is, next-kept}
 use Rattle.machine.specs.declared.Regs.{Regs}
 use Rattle.frame.specs.declared.Came.{Came}
 use Rattle.frame.specs.Frame.{Inputs, Caller, frame_of}
-use Rattle.frame.specs.as_coded.InPlace.{callerBy, cameTo}
-use Rattle.walking.specs.Walk.{arm, frames, nextFrame}
+use Rattle.frame.specs.AsCoded.InPlace.{caller_by, came_to}
+use Rattle.walking.specs.Walk.{arm, frames, next_frame}
 
-module _ (u : Came) (r d : List ℕ) {x : Res Caller} (is : cameTo u r d ≡ x) where
+module _ (u : Came) (r d : List ℕ) {x : Res Caller} (is : came_to u r d ≡ x) where
   pub refused-is : (why : Refusal) → u.verdict ≡ Refused why → x ≡ refuse why
   refused-is why v = sym is ∙ rw v refl
 
-  pub given_is : u.verdict ≡ Given → x ≡ ok (callerBy u r d)
+  pub given_is : u.verdict ≡ Given → x ≡ ok (caller_by u r d)
   given_is v = sym is ∙ rw v refl
 
-module _ (first : Bool) (t : Inputs) (g : Regs) (u : Came) (r d : List ℕ) (is : cameTo u r d ≡ frame_of first t g) where
+module _ (first : Bool) (t : Inputs) (g : Regs) (u : Came) (r d : List ℕ) (is : came_to u r d ≡ frame_of first t g) where
   -- it stays where no caller is refused
-  stays : ((c : Caller) → frame_of first t g ≡ ok c → passes arm (frames t) first g c ≡ true) → cameTo u r d ≡ nextFrame first t g
+  stays : ((c : Caller) → frame_of first t g ≡ ok c → passes arm (frames t) first g c ≡ true) → came_to u r d ≡ next_frame first t g
   stays h = is ∙ next-kept arm (frames t) first g h
 
   -- the first frame's, a refusal, and one that leaves another SP
-  pub first-stays : first ≡ true → cameTo u r d ≡ nextFrame first t g
+  pub first-stays : first ≡ true → came_to u r d ≡ next_frame first t g
   first-stays h = stays (λ c e. rw h refl)
 
-  pub refused-stays : (why : Refusal) → u.verdict ≡ Refused why → cameTo u r d ≡ nextFrame first t g
+  pub refused-stays : (why : Refusal) → u.verdict ≡ Refused why → came_to u r d ≡ next_frame first t g
   refused-stays why v = stays (λ c e. cc (refused-is u r d is why v))
 
-  pub other-stays : first ≡ false → u.verdict ≡ Given → eqb u.sp g.sp ≡ false → cameTo u r d ≡ nextFrame first t g
-  other-stays f v h = stays (λ c e. let q : ok (callerBy u r d) ≡ ok c = sym (given_is u r d is v) ∙ e in go c q)
+  pub other-stays : first ≡ false → u.verdict ≡ Given → eqb u.sp g.sp ≡ false → came_to u r d ≡ next_frame first t g
+  other-stays f v h = stays (λ c e. let q : ok (caller_by u r d) ≡ ok c = sym (given_is u r d is v) ∙ e in go c q)
     where
-      go : (c : Caller) → ok (callerBy u r d) ≡ ok c → passes arm (frames t) first g c ≡ true
-      go c q = let z : eqb c.regs.sp g.sp ≡ false = rw (← ok_same (callerBy u r d) c q) h in rw (f, z) refl
+      go : (c : Caller) → ok (caller_by u r d) ≡ ok c → passes arm (frames t) first g c ≡ true
+      go c q = let z : eqb c.regs.sp g.sp ≡ false = rw (← ok_same (caller_by u r d) c q) h in rw (f, z) refl
 
   -- one after the first that leaves it the same is refused
-  pub same-is-13 : first ≡ false → u.verdict ≡ Given → eqb u.sp g.sp ≡ true → refuse SpSame ≡ nextFrame first t g
-  same-is-13 f v h = sym (next-is arm (frames t) first g (still (callerBy u r d) (given_is u r d is v) (rw (f, h) refl)))
+  pub same-is-13 : first ≡ false → u.verdict ≡ Given → eqb u.sp g.sp ≡ true → refuse SpSame ≡ next_frame first t g
+  same-is-13 f v h = sym (next-is arm (frames t) first g (still (caller_by u r d) (given_is u r d is v) (rw (f, h) refl)))

@@ -7,12 +7,12 @@ use mathlib.Core.List.{List}
 use native.Mathlib.Omega.{arith}
 use lib.Dec.{eqb}
 use Rattle.words.specs.declared.Verdict.TheVariants.{Given}
-use Rattle.unwinding.specs.as_coded.Turn as Any
+use Rattle.unwinding.specs.AsCoded.Turn as Any
 use Rattle.unwinding.proofs.Rising.{Bounded, next-few}
 use Rattle.unwinding.proofs.Turns.{Turns, turns, turn_is, at-end, at-full, at-refusal, goes}
 use Rattle.frame.specs.declared.Came.{Came}
 use Rattle.frame.specs.Frame.{Inputs}
-use Rattle.frame.specs.as_coded.InPlace.{callerBy, cameTo}
+use Rattle.frame.specs.AsCoded.InPlace.{caller_by, came_to}
 use Rattle.frame.proofs.Bounds.{frame-sp, frame-codes}
 use Rattle.walking.specs.declared.Frame.{Frame}
 use Rattle.walking.specs.declared.Going.{Going}
@@ -20,9 +20,9 @@ use Rattle.walking.specs.declared.Standing.{Standing}
 use Rattle.walking.specs.declared.State.{State}
 use Rattle.walking.specs.declared.Stop.{Stop}
 use Rattle.walking.specs.declared.Turn.{Turn}
-use Rattle.walking.specs.Walk.{arm, frames, nextFrame}
-use Rattle.walking.specs.as_coded.Turn.{standing, turned, turn_of}
-use Rattle.walking.specs.as_coded.InPlace.{stands, haltedIn, goneIn, Goes}
+use Rattle.walking.specs.Walk.{arm, frames, next_frame}
+use Rattle.walking.specs.AsCoded.Turn.{standing, turned, turn_of}
+use Rattle.walking.specs.AsCoded.InPlace.{stands, halted_in, gone_in, Goes}
 use Rattle.walking.proofs.Next.{given_is}
 
 pub bounded : (t : Inputs) → Bounded arm (frames t) 1020
@@ -30,7 +30,7 @@ bounded t = record { up = λ first g c e. frame-sp first t g c e; few = λ first
 
 module _ (t : Inputs) (room : ℕ) (s : Standing) (r d : List ℕ) (x : Going) where
   -- it halts as the walk does, whatever is left in the lists
-  pub halts : (stop : Stop) (a b : List ℕ) → x ≡ haltedIn s stop → Turns arm (frames t) room (stands s r d) (Any.halted arm (stands s r d) stop) → Goes t room (stands s r d) x a b
+  pub halts : (stop : Stop) (a b : List ℕ) → x ≡ halted_in s stop → Turns arm (frames t) room (stands s r d) (Any.halted arm (stands s r d) stop) → Goes t room (stands s r d) x a b
   halts stop a b e h =
       let k = turn_is arm (frames t) room (stands s r d) h in
       record {
@@ -41,7 +41,7 @@ module _ (t : Inputs) (room : ℕ) (s : Standing) (r d : List ℕ) (x : Going) w
       }
 
   -- it goes on as the walk does
-  pub goes_in : (u : Came) (a b : List ℕ) → x ≡ goneIn s u → Turns arm (frames t) room (stands s r d) (Any.gone arm (stands s r d) (callerBy u a b)) → Goes t room (stands s r d) x a b
+  pub goes_in : (u : Came) (a b : List ℕ) → x ≡ gone_in s u → Turns arm (frames t) room (stands s r d) (Any.gone arm (stands s r d) (caller_by u a b)) → Goes t room (stands s r d) x a b
   goes_in u a b e h =
       let k = turn_is arm (frames t) room (stands s r d) h in
       record {
@@ -52,8 +52,8 @@ module _ (t : Inputs) (room : ℕ) (s : Standing) (r d : List ℕ) (x : Going) w
       }
 
 pub came-codes : (t : Inputs) (s : Standing) (r d : List ℕ) (u : Came) (a b : List ℕ)
-    → cameTo u a b ≡ nextFrame (eqb s.frames 0) t (stands s r d).at → u.verdict ≡ Given → u.codes ≤ 1020
-came-codes t s r d u a b is v = next-few arm (frames t) 1020 (bounded t) _ (stands s r d).at (callerBy u a b) (given_is u a b is v)
+    → came_to u a b ≡ next_frame (eqb s.frames 0) t (stands s r d).at → u.verdict ≡ Given → u.codes ≤ 1020
+came-codes t s r d u a b is v = next-few arm (frames t) 1020 (bounded t) _ (stands s r d).at (caller_by u a b) (given_is u a b is v)
 
 -- where a turn does not go on, the walk stands where it stood
 rests : (t : Inputs) (room : ℕ) {s : Any.Standing arm} {r : Any.Turn arm} → Turns arm (frames t) room s r → r.on ≡ false → r.next ≡ s

@@ -22,25 +22,25 @@ arm = record {
   place = λ c. c.place;
   codes = λ c. c.codes;
   Frame = Frame;
-  listedAs = λ g p. record { pc = even g.pc; sp = g.sp; place = p };
+  listed_as = λ g p. record { pc = even g.pc; sp = g.sp; place = p };
   Stop = Stop;
   ended = End;
   full = Full;
-  refusedAt = λ g r. Refused r (even g.pc);
+  refused_at = λ g r. Refused r (even g.pc);
 }
 
 -- 12 is in `frame_of`
 abbrev pub frames : Inputs → FrameOf arm
 frames t first g = frame_of first t g
 
-abbrev pub nextFrame : (first : Bool) → Inputs → Regs → Res Caller
-nextFrame first t g = Any.nextFrame arm (frames t) first g
+abbrev pub next_frame : (first : Bool) → Inputs → Regs → Res Caller
+next_frame first t g = Any.next_frame arm (frames t) first g
 
 abbrev pub Trail : Type 0
 Trail = Any.Trail arm
 
-abbrev pub walkFrom : Inputs → (room : ℕ) → (first : Bool) → Regs → Trail
-walkFrom t room first g = Any.walkFrom arm (frames t) room first g
+abbrev pub walk_from : Inputs → (room : ℕ) → (first : Bool) → Regs → Trail
+walk_from t room first g = Any.walk_from arm (frames t) room first g
 
 abbrev pub walk : Inputs → (room : ℕ) → Regs → Trail
 walk t room g = Any.walk arm (frames t) room g
@@ -57,5 +57,5 @@ abbrev pub Walks : Inputs → Regs → (lent left : List Frame) → Walked → T
 Walks t g lent left r = (r ≡ walked (walk t (length lent) g)) × (left ≡ filled lent (walk t (length lent) g))
 
 -- both, for a list that goes in and comes back by value
-abbrev pub walkedAll : List Frame → Trail → WalkedAll
-walkedAll lent w = record { walked = walked w; list = filled lent w }
+abbrev pub walked_all : List Frame → Trail → WalkedAll
+walked_all lent w = record { walked = walked w; list = filled lent w }

@@ -1,12 +1,12 @@
 // The walk (RULES 7): frame after frame into a list that was lent. It knows no files.
 ghost use Rattle.std.specs.Prelude.{◌≡◌, ◌+◌, ◌*◌, ◌<◌, ◌≤◌, length, set};
-ghost use Rattle.frame.specs.Frame.{inputs, checked as checkedOf};
-ghost use Rattle.walking.specs.Walk.{nextFrame, walk as walk_of, Walks, walkedAll};
-ghost use Rattle.codes.specs.as_coded.Rows.{rowNumbers};
-ghost use Rattle.machine.specs.as_coded.Answers.{regs};
-ghost use Rattle.frame.specs.as_coded.InPlace.{cameTo};
-ghost use Rattle.walking.specs.as_coded.Turn.{begun, turn_of, Small};
-ghost use Rattle.walking.specs.as_coded.InPlace.{stands, haltedIn, goneIn, SmallIn, Goes};
+ghost use Rattle.frame.specs.Frame.{inputs, checked as checked_of};
+ghost use Rattle.walking.specs.Walk.{next_frame as spec_next_frame, walk as walk_of, Walks, walked_all};
+ghost use Rattle.codes.specs.AsCoded.Rows.{row_numbers};
+ghost use Rattle.machine.specs.AsCoded.Answers.{regs};
+ghost use Rattle.frame.specs.AsCoded.InPlace.{came_to};
+ghost use Rattle.walking.specs.AsCoded.Turn.{begun, turn_of, Small};
+ghost use Rattle.walking.specs.AsCoded.InPlace.{stands, halted_in, gone_in, SmallIn, Goes};
 
 use frame::Came;
 use machine::Regs;
@@ -115,8 +115,8 @@ fn next_frame(
     lr: u32,
     pc: u32,
 ) -> Came
-    requires { (t.now ≡ rowNumbers) × (c ≡ checkedOf (inputs image pdata.now rva xdata.now base stack.now)) }
-    ensures { cameTo result r.new d.new ≡ nextFrame first (inputs image pdata.now rva xdata.now base stack.now) (regs r.old sp lr pc d.old) }
+    requires { (t.now ≡ row_numbers) × (c ≡ checked_of (inputs image pdata.now rva xdata.now base stack.now)) }
+    ensures { came_to result r.new d.new ≡ spec_next_frame first (inputs image pdata.now rva xdata.now base stack.now) (regs r.old sp lr pc d.old) }
 {
     let u = frame::frame_in(
         t, first, c, image, pdata, rva, xdata, base, stack, r, d, sp, lr, pc,
@@ -146,7 +146,7 @@ fn next_frame(
 
 // A turn that stops the walk.
 fn halt(s: Standing, stop: Stop) -> Going
-    ensures { result ≡ haltedIn s stop }
+    ensures { result ≡ halted_in s stop }
 {
     Going {
         on: false,
@@ -163,7 +163,7 @@ fn halt(s: Standing, stop: Stop) -> Going
 // A turn that lists the frame and goes on to its caller. The sums fit: SP rises with each frame after the first, and is below 2^32.
 fn advance(s: Standing, u: Came) -> Going
     requires { (s.frames ≤ s.sp + 1) × (s.codes ≤ 1020 * s.frames) × (u.codes ≤ 1020) }
-    ensures { result ≡ goneIn s u }
+    ensures { result ≡ gone_in s u }
 {
     let place = u.place;
     let pc = words::even(u.lr);
@@ -201,7 +201,7 @@ pub fn turn_in(
     s: Standing,
     room: usize,
 ) -> Going
-    requires { (t.now ≡ rowNumbers) × (c ≡ checkedOf (inputs image pdata.now rva xdata.now base stack.now)) × SmallIn (stands s r.old d.old) }
+    requires { (t.now ≡ row_numbers) × (c ≡ checked_of (inputs image pdata.now rva xdata.now base stack.now)) × SmallIn (stands s r.old d.old) }
     ensures { Goes (inputs image pdata.now rva xdata.now base stack.now) room (stands s r.old d.old) result r.new d.new }
 {
     if s.end {
@@ -259,7 +259,7 @@ fn step(
     s: State,
     room: usize,
 ) -> Turn
-    requires { (s.checked ≡ checkedOf (inputs image pdata.now rva xdata.now base stack.now)) × Small s }
+    requires { (s.checked ≡ checked_of (inputs image pdata.now rva xdata.now base stack.now)) × Small s }
     ensures { result ≡ turn_of (inputs image pdata.now rva xdata.now base stack.now) room s }
 {
     let rows = codes::row_table();
@@ -360,7 +360,7 @@ pub fn walk_all(
     g: Regs,
     list: [Frame; 256],
 ) -> WalkedAll
-    ensures { result ≡ walkedAll list (walk_of (inputs image pdata.now rva xdata.now base stack.now) 256 g) }
+    ensures { result ≡ walked_all list (walk_of (inputs image pdata.now rva xdata.now base stack.now) 256 g) }
 {
     let mut frames = list;
     let walked = walk(image, pdata, rva, xdata, base, stack, g, &mut frames);

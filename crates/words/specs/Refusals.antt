@@ -21,6 +21,6 @@ number NoRecord = 12
 number SpSame = 13
 number UnfitReport = 14
 
-abbrev pub verdictNumber : Verdict → ℕ
-verdictNumber Given = 0
-verdictNumber (Refused r) = number r
+abbrev pub verdict_number : Verdict → ℕ
+verdict_number Given = 0
+verdict_number (Refused r) = number r

@@ -7,18 +7,18 @@ use Rattle.words.specs.declared.StackWords.{StackWords}
 abbrev pub halfwords : ℕ → Halfwords
 halfwords n = record { 0 = n }
 
-abbrev pub codeBytes : ℕ → CodeBytes
-codeBytes n = record { 0 = n }
+abbrev pub code_bytes : ℕ → CodeBytes
+code_bytes n = record { 0 = n }
 
 abbrev pub stack_words : ℕ → StackWords
 stack_words n = record { 0 = n }
 
-abbrev pub halfwordBytes : Halfwords → ℕ
-halfwordBytes h = 2 * h.0
+abbrev pub halfword_bytes : Halfwords → ℕ
+halfword_bytes h = 2 * h.0
 
-abbrev pub stackBytes : StackWords → ℕ
-stackBytes w = 4 * w.0
+abbrev pub stack_bytes : StackWords → ℕ
+stack_bytes w = 4 * w.0
 
 -- the count of code words in a record's head, as code bytes
-abbrev pub codeWordBytes : ℕ → CodeBytes
-codeWordBytes n = codeBytes (4 * n)
+abbrev pub code_word_bytes : ℕ → CodeBytes
+code_word_bytes n = code_bytes (4 * n)

@@ -1,9 +1,9 @@
 // The vocabulary that every other crate speaks: the three units (RULES 1.6), the bits of a word, the refusals (RULES 9), the places. It
 // knows neither records nor registers. No function asks anything of its caller.
 ghost use Rattle.std.specs.Prelude.{◌≡◌, ◌+◌, ◌^◌, ◌<◌, ◌≤◌};
-ghost use Rattle.words.specs.Bits.{bits as bits_of, bit as bit_of, even as evenOf};
-ghost use Rattle.words.specs.Units.{halfwordBytes, stackBytes, codeWordBytes};
-ghost use Rattle.words.specs.Refusals.{number as number_of, verdictNumber};
+ghost use Rattle.words.specs.Bits.{bits as bits_of, bit as bit_of, even as even_of};
+ghost use Rattle.words.specs.Units.{halfword_bytes as spec_halfword_bytes, stack_bytes as spec_stack_bytes, code_word_bytes as spec_code_word_bytes};
+ghost use Rattle.words.specs.Refusals.{number as number_of, verdict_number as spec_verdict_number};
 
 // Two bytes: the unit of lengths of functions, starts of epilogues and sizes of instructions (RULES 1.6).
 #[derive(Drop)]
@@ -89,27 +89,27 @@ pub fn bit(word: u32, k: u32) -> bool
 
 // An address with bit 0 cleared.
 pub fn even(a: u32) -> u32
-    ensures { result ≡ evenOf a }
+    ensures { result ≡ even_of a }
 {
     a - a % 2
 }
 
 // The named conversions to bytes.
 pub fn halfword_bytes(h: Halfwords) -> u64
-    ensures { (result ≡ halfwordBytes h) × (result < 8589934592) }
+    ensures { (result ≡ spec_halfword_bytes h) × (result < 8589934592) }
 {
     2 * (h.0 as u64)
 }
 
 pub fn stack_bytes(w: StackWords) -> u64
-    ensures { (result ≡ stackBytes w) × (result < 17179869184) }
+    ensures { (result ≡ spec_stack_bytes w) × (result < 17179869184) }
 {
     4 * (w.0 as u64)
 }
 
 // Code words of a record's head, of which there are at most 255, as code bytes.
 pub fn code_word_bytes(n: u32) -> CodeBytes
-    ensures { result ≡ codeWordBytes n }
+    ensures { result ≡ spec_code_word_bytes n }
 {
     CodeBytes(4 * (n as usize))
 }
@@ -138,7 +138,7 @@ pub fn number(r: Refusal) -> u32
 
 // The number of a verdict: 0 where nothing is refused.
 pub fn verdict_number(v: Verdict) -> u32
-    ensures { result ≡ verdictNumber v }
+    ensures { result ≡ spec_verdict_number v }
 {
     match v {
         Verdict::Given => 0,

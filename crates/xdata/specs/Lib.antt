@@ -1,3 +1,3 @@
 pub mod Xdata
 pub mod Scopes
-pub mod as_coded
+pub mod AsCoded

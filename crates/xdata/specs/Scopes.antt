@@ -4,22 +4,22 @@
 --  |  Index | Condition | Res | Start / 2 |
 use Rattle.std.specs.Prelude.{ℕ, zero, suc, ◌+◌, List, ◌∷◌, [], eqb}
 use Rattle.words.specs.Bits.{bits}
-use Rattle.lent.specs.Lent.{Lent, wordAt}
-use Rattle.words.specs.Units.{codeBytes}
+use Rattle.lent.specs.Lent.{Lent, word_at}
+use Rattle.words.specs.Units.{code_bytes}
 use Rattle.words.specs.declared.Refusal.TheVariants.{Reserved}
 use Rattle.words.specs.Answer.{Res, ok, need, ◌>>=◌, ◌>>◌}
 use Rattle.unwinding.specs.declared.Scope.{Scope}
 use Rattle.unwinding.specs.declared.Start.TheVariants.{From}
 use Rattle.xdata.specs.Xdata.{span_of}
 
-abbrev pub scopeOf : ℕ → Scope
-scopeOf w =
-    record { start = From (span_of w); condition = bits 20 4 w; index = codeBytes (bits 24 8 w) }
+abbrev pub scope_of : ℕ → Scope
+scope_of w =
+    record { start = From (span_of w); condition = bits 20 4 w; index = code_bytes (bits 24 8 w) }
 
 -- n scope words from an RVA, each of which has Res 0 (4 else)
-unfoldable pub scopesAt : Lent → (at n : ℕ) → Res (List Scope)
-scopesAt x a zero = ok []
-scopesAt x a (suc n) = do
-  need (eqb (bits 18 2 (wordAt x a)) 0) Reserved
-  rest ← scopesAt x (a + 4) n
-  ok (scopeOf (wordAt x a) ∷ rest)
+unfoldable pub scopes_at : Lent → (at n : ℕ) → Res (List Scope)
+scopes_at x a zero = ok []
+scopes_at x a (suc n) = do
+  need (eqb (bits 18 2 (word_at x a)) 0) Reserved
+  rest ← scopes_at x (a + 4) n
+  ok (scope_of (word_at x a) ∷ rest)

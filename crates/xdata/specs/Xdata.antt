@@ -7,16 +7,16 @@
 -- After it come the scope words, none with E=1, the code bytes and, with X=1, the handler (RULES 2.9 to 2.12).
 use Rattle.std.specs.Prelude.{ℕ, ◌+◌, ◌-◌, ◌*◌, ◌%◌, ◌^◌, Bool, ◌&&◌, leb, eqb}
 use Rattle.words.specs.Bits.{bits, bit}
-use Rattle.lent.specs.Lent.{Lent, end, holds, wordAt}
-use Rattle.words.specs.Units.{halfwords, halfwordBytes, codeWordBytes}
+use Rattle.lent.specs.Lent.{Lent, end, holds, word_at}
+use Rattle.words.specs.Units.{halfwords, halfword_bytes, code_word_bytes}
 use Rattle.words.specs.declared.Refusal.TheVariants.{UnfitInput, Reserved, OutsideXdata}
 use Rattle.words.specs.Answer.{Res, ok, need, if◌then◌else◌, verdict, or_else, ◌>>=◌, ◌>>◌}
 use Rattle.xdata.specs.declared.Head.{Head}
 use Rattle.xdata.specs.declared.SizeOf.{SizeOf}
 
 -- what 1 asks of the .xdata (RULES 9.1)
-abbrev pub fitXdata : Lent → Bool
-fitXdata x = eqb (x.base % 4) 0 && leb (end x) (2 ^ 32)
+abbrev pub fit_xdata : Lent → Bool
+fit_xdata x = eqb (x.base % 4) 0 && leb (end x) (2 ^ 32)
 
 -- X of a head's first word
 abbrev pub handled : (word : ℕ) → Bool
@@ -32,52 +32,52 @@ abbrev pub F : Head → Bool
 F h = bit 22 h.word
 
 -- the number of scope words; offsets in the record of its codes and of what follows them; its size (RULES 2.13)
-abbrev pub scopeCount : Head → ℕ
-scopeCount h = if E h then 0 else h.count
+abbrev pub scope_count : Head → ℕ
+scope_count h = if E h then 0 else h.count
 
-abbrev pub codesOffset : Head → ℕ
-codesOffset h = h.bytes + 4 * scopeCount h
+abbrev pub codes_offset : Head → ℕ
+codes_offset h = h.bytes + 4 * scope_count h
 
-abbrev pub handlerOffset : Head → ℕ
-handlerOffset h = codesOffset h + (codeWordBytes h.codewords).0
+abbrev pub handler_offset : Head → ℕ
+handler_offset h = codes_offset h + (code_word_bytes h.codewords).0
 
-abbrev pub recordBytes : Head → ℕ
-recordBytes h = handlerOffset h + (if X h then 4 else 0)
+abbrev pub record_bytes : Head → ℕ
+record_bytes h = handler_offset h + (if X h then 4 else 0)
 
 -- a head with the extension word (RULES 2.8): 5 if that is not lent, then 4
-unfoldable pub longHead : Lent → (at word : ℕ) → Res Head
-longHead x a w = do
+unfoldable pub long_head : Lent → (at word : ℕ) → Res Head
+long_head x a w = do
   need (holds x a 8) OutsideXdata
-  let v = wordAt x (a + 4)
+  let v = word_at x (a + 4)
   need (eqb (bits 24 8 v) 0) Reserved
   ok (record { word = w; bytes = 8; count = bits 0 16 v; codewords = bits 16 8 v })
 
-abbrev pub shortHead : ℕ → Head
-shortHead w = record { word = w; bytes = 4; count = bits 23 5 w; codewords = bits 28 4 w }
+abbrev pub short_head : ℕ → Head
+short_head w = record { word = w; bytes = 4; count = bits 23 5 w; codewords = bits 28 4 w }
 
 -- the head of a record that is lent, all of it: the tests of RULES 9.52 but for Res
-unfoldable pub headAt : Lent → ℕ → Res Head
-headAt x a = do
+unfoldable pub head_at : Lent → ℕ → Res Head
+head_at x a = do
   need (holds x a 4) OutsideXdata
-  let w = wordAt x a
+  let w = word_at x a
   need (eqb (bits 18 2 w) 0) Reserved
-  h ← if eqb (bits 23 9 w) 0 then longHead x a w else ok (shortHead w)
-  need (holds x a (recordBytes h)) OutsideXdata
+  h ← if eqb (bits 23 9 w) 0 then long_head x a w else ok (short_head w)
+  need (holds x a (record_bytes h)) OutsideXdata
   ok h
 
 -- the size routine, which clears bits 0-1 of a record's RVA (RULES 2.13, 9.55)
-unfoldable pub xdataSize : Lent → ℕ → Res ℕ
-xdataSize x a = do
-  need (fitXdata x) UnfitInput
-  h ← headAt x (a - a % 4)
-  ok (recordBytes h)
+unfoldable pub xdata_size : Lent → ℕ → Res ℕ
+xdata_size x a = do
+  need (fit_xdata x) UnfitInput
+  h ← head_at x (a - a % 4)
+  ok (record_bytes h)
 
-abbrev pub sizeAnswer : Res ℕ → SizeOf
-sizeAnswer r = record { verdict = verdict r; bytes = or_else r 0 }
+abbrev pub size_answer : Res ℕ → SizeOf
+size_answer r = record { verdict = verdict r; bytes = or_else r 0 }
 
 -- the function's length in bytes (RULES 2.7); the handler's RVA, 0 if there is no word of it (RULES 2.12)
 abbrev pub span_of : (word : ℕ) → ℕ
-span_of w = halfwordBytes (halfwords (bits 0 18 w))
+span_of w = halfword_bytes (halfwords (bits 0 18 w))
 
-abbrev pub handlerAt : Lent → ℕ → Head → ℕ
-handlerAt x a h = if X h then wordAt x (a + handlerOffset h) else 0
+abbrev pub handler_at : Lent → ℕ → Head → ℕ
+handler_at x a h = if X h then word_at x (a + handler_offset h) else 0

@@ -3,10 +3,10 @@ ghost use Rattle.std.specs.Prelude.{◌≡◌, ◌+◌, ◌*◌, ◌<◌, ◌≤
 ghost use Rattle.lent.specs.Lent.{lent};
 ghost use Rattle.lent.specs.Little.{word32};
 ghost use Rattle.words.specs.Answer.{ok, refuse};
-ghost use Rattle.xdata.specs.Xdata.{fitXdata, handled as handledOf, X, E, F, scopeCount, codesOffset, handlerOffset, recordBytes, shortHead, headAt, xdataSize, sizeAnswer, span_of, handlerAt};
-ghost use Rattle.xdata.specs.as_coded.Heads.{headRead, wholeRecord, longRecord};
-ghost use Rattle.xdata.specs.Scopes.{scopeOf};
-ghost use Rattle.xdata.specs.as_coded.Scopes.{resZero};
+ghost use Rattle.xdata.specs.Xdata.{fit_xdata, handled as handled_of, X, E, F, scope_count as spec_scope_count, codes_offset as spec_codes_offset, handler_offset as spec_handler_offset, record_bytes as spec_record_bytes, short_head as spec_short_head, head_at as spec_head_at, xdata_size as spec_xdata_size, size_answer, span_of, handler_at};
+ghost use Rattle.xdata.specs.AsCoded.Heads.{head_read, whole_record as spec_whole_record, long_record};
+ghost use Rattle.xdata.specs.Scopes.{scope_of as spec_scope_of};
+ghost use Rattle.xdata.specs.AsCoded.Scopes.{res_zero as spec_res_zero};
 
 use unwinding::{Scope, Start};
 use words::{CodeBytes, Halfwords, Refusal, Verdict, bit, bits};
@@ -37,14 +37,14 @@ pub struct HeadRead {
 
 // Whether the .xdata may be lent at this RVA: 1 else.
 pub fn fit(rva: u32, xdata: &[u8]) -> bool
-    ensures { result ≡ fitXdata (lent rva xdata.now) }
+    ensures { result ≡ fit_xdata (lent rva xdata.now) }
 {
     rva % 4 == 0 && (rva as u64) + (xdata.len() as u64) <= 4294967296
 }
 
 // X: a handler follows the codes of the record with this first word.
 pub fn handled(word: u32) -> bool
-    ensures { result ≡ handledOf word }
+    ensures { result ≡ handled_of word }
 {
     bit(word, 20)
 }
@@ -71,7 +71,7 @@ pub fn is_fragment(h: Head) -> bool
 
 // The number of scope words.
 pub fn scope_count(h: Head) -> u32
-    ensures { result ≡ scopeCount h }
+    ensures { result ≡ spec_scope_count h }
 {
     if has_last(h) {
         return 0;
@@ -81,14 +81,14 @@ pub fn scope_count(h: Head) -> u32
 
 // The offset in a record of its codes.
 pub fn codes_offset(h: Head) -> u64
-    ensures { (result ≡ codesOffset h) × (result < 34359738368) }
+    ensures { (result ≡ spec_codes_offset h) × (result < 34359738368) }
 {
     (h.bytes as u64) + 4 * (scope_count(h) as u64)
 }
 
 // The offset of what follows them.
 fn handler_offset(h: Head) -> u64
-    ensures { (result ≡ handlerOffset h) × (result < 68719476736) }
+    ensures { (result ≡ spec_handler_offset h) × (result < 68719476736) }
 {
     let codes = words::code_word_bytes(h.codewords);
     codes_offset(h) + (codes.0 as u64)
@@ -96,7 +96,7 @@ fn handler_offset(h: Head) -> u64
 
 // The record's size.
 fn record_bytes(h: Head) -> u64
-    ensures { result ≡ recordBytes h }
+    ensures { result ≡ spec_record_bytes h }
 {
     if has_handler(h) {
         return handler_offset(h) + 4;
@@ -106,7 +106,7 @@ fn record_bytes(h: Head) -> u64
 
 // A refused head.
 fn no_head(why: Refusal) -> HeadRead
-    ensures { result ≡ headRead (refuse why) }
+    ensures { result ≡ head_read (refuse why) }
 {
     HeadRead {
         verdict: Verdict::Refused(why),
@@ -121,7 +121,7 @@ fn no_head(why: Refusal) -> HeadRead
 
 // The head, if its whole record is lent.
 fn whole_record(rva: u32, xdata: &[u8], at: u32, h: Head) -> HeadRead
-    ensures { result ≡ headRead (wholeRecord (lent rva xdata.now) at h) }
+    ensures { result ≡ head_read (spec_whole_record (lent rva xdata.now) at h) }
 {
     if lent::holds(rva, xdata, at as u64, record_bytes(h)) {
         return HeadRead {
@@ -134,7 +134,7 @@ fn whole_record(rva: u32, xdata: &[u8], at: u32, h: Head) -> HeadRead
 
 // The head of a record with the extension word.
 fn long_head(rva: u32, xdata: &[u8], at: u32, word: u32) -> HeadRead
-    ensures { result ≡ headRead (longRecord (lent rva xdata.now) at word) }
+    ensures { result ≡ head_read (long_record (lent rva xdata.now) at word) }
 {
     if !lent::holds(rva, xdata, at as u64, 8) {
         return no_head(Refusal::OutsideXdata);
@@ -154,7 +154,7 @@ fn long_head(rva: u32, xdata: &[u8], at: u32, word: u32) -> HeadRead
 
 // The head of a record without it.
 fn short_head(rva: u32, xdata: &[u8], at: u32, word: u32) -> HeadRead
-    ensures { result ≡ headRead (wholeRecord (lent rva xdata.now) at (shortHead word)) }
+    ensures { result ≡ head_read (spec_whole_record (lent rva xdata.now) at (spec_short_head word)) }
 {
     let h = Head {
         word: word,
@@ -167,7 +167,7 @@ fn short_head(rva: u32, xdata: &[u8], at: u32, word: u32) -> HeadRead
 
 // The head of the record at an RVA: the tests of RULES 9.52 but for Res.
 pub fn head_at(rva: u32, xdata: &[u8], at: u32) -> HeadRead
-    ensures { result ≡ headRead (headAt (lent rva xdata.now) at) }
+    ensures { result ≡ head_read (spec_head_at (lent rva xdata.now) at) }
 {
     if !lent::holds(rva, xdata, at as u64, 4) {
         return no_head(Refusal::OutsideXdata);
@@ -184,7 +184,7 @@ pub fn head_at(rva: u32, xdata: &[u8], at: u32) -> HeadRead
 
 // A refused size.
 fn no_size(why: Refusal) -> SizeOf
-    ensures { result ≡ sizeAnswer (refuse why) }
+    ensures { result ≡ size_answer (refuse why) }
 {
     SizeOf {
         verdict: Verdict::Refused(why),
@@ -194,8 +194,8 @@ fn no_size(why: Refusal) -> SizeOf
 
 // The size of a record whose head was read.
 fn size_of(h: Head) -> SizeOf
-    requires { recordBytes h < 4294967296 }
-    ensures { result ≡ sizeAnswer (ok (recordBytes h)) }
+    requires { spec_record_bytes h < 4294967296 }
+    ensures { result ≡ size_answer (ok (spec_record_bytes h)) }
 {
     SizeOf {
         verdict: Verdict::Given,
@@ -205,7 +205,7 @@ fn size_of(h: Head) -> SizeOf
 
 // The size of the record at an RVA, of which bits 0-1 are cleared (RULES 2.13).
 pub fn xdata_size(rva: u32, xdata: &[u8], at: u32) -> SizeOf
-    ensures { result ≡ sizeAnswer (xdataSize (lent rva xdata.now) at) }
+    ensures { result ≡ size_answer (spec_xdata_size (lent rva xdata.now) at) }
 {
     if !fit(rva, xdata) {
         return no_size(Refusal::UnfitInput);
@@ -227,7 +227,7 @@ pub fn span_of(word: u32) -> u32
 
 // A scope word; its start stands where a head's length does.
 pub fn scope_of(word: u32) -> Scope
-    ensures { result ≡ scopeOf word }
+    ensures { result ≡ spec_scope_of word }
 {
     Scope {
         start: Start::From(span_of(word)),
@@ -239,7 +239,7 @@ pub fn scope_of(word: u32) -> Scope
 // Whether n scope words have Res 0. The caller has tested that they are there: they belong to a record that is lent whole.
 pub fn res_zero(xdata: &[u8], at: usize, n: usize) -> bool
     requires { at + 4 * n ≤ length xdata.now }
-    ensures { result ≡ resZero xdata.now at 0 n }
+    ensures { result ≡ spec_res_zero xdata.now at 0 n }
 {
     let mut k = 0;
     while k < n {
@@ -253,7 +253,7 @@ pub fn res_zero(xdata: &[u8], at: usize, n: usize) -> bool
 
 // The handler's RVA; 0 if none.
 pub fn handler_of(rva: u32, xdata: &[u8], at: u32, h: Head) -> u32
-    ensures { result ≡ handlerAt (lent rva xdata.now) at h }
+    ensures { result ≡ handler_at (lent rva xdata.now) at h }
 {
     if has_handler(h) {
         return lent::word_at(rva, xdata, (at as u64) + handler_offset(h));

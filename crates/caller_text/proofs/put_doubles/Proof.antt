@@ -7,14 +7,14 @@ use native.Mathlib.Omega.{arith}
 use borrow.Author.Rules.{rules}
 use Rattle.text.specs.Text.{numbered}
 use Rattle.text.specs.Overlay.{Laid}
-use Rattle.caller_text.specs.CallerText.{dLine}
+use Rattle.caller_text.specs.CallerText.{d_line}
 use Rattle.text.proofs.Overlaid.{none, joined, laid-length}
 use Rattle.text.proofs.Numbers.{numbered-last}
 use Rattle.caller_text.proofs.put_doubles.Statement.{statement}
 use Rattle.caller_text.proofs.put_doubles.Tie as tie
 
 abbrev invariant-loop : tie.invariant-loop
-invariant-loop out₀ at d next₀ i₀ out next i = (i ≤ 32) × Laid out₀ at (numbered (dLine d) 0 i) next out
+invariant-loop out₀ at d next₀ i₀ out next i = (i ≤ 32) × Laid out₀ at (numbered (d_line d) 0 i) next out
 
 abbrev decreases-loop : tie.decreases-loop
 decreases-loop out₀ at d next₀ i₀ out next i = 32 - i
@@ -38,7 +38,7 @@ loop-less c = omega arith
 loop-again : tie.Need-loop-preserved invariant-loop decreases-loop
 loop-again c =
     let z : c.before.before.before.before.before.loop.i ≡ 0 + c.before.before.before.before.before.loop.i = omega arith in
-    (omega arith, rw (add-one, numbered-last (dLine c.before.before.before.before.before.before.before.args.t3) 0 c.before.before.before.before.before.loop.i, ← z) (joined c.before.before.before.before.before.loop.invariant.1 c.before.before.put-double.ensures))
+    (omega arith, rw (add-one, numbered-last (d_line c.before.before.before.before.before.before.before.args.t3) 0 c.before.before.before.before.before.loop.i, ← z) (joined c.before.before.before.before.before.loop.invariant.1 c.before.before.put-double.ensures))
 
 same_length : tie.Need-same-length invariant-loop decreases-loop
 same_length c = laid-length c.before.loop.invariant.1

@@ -7,14 +7,14 @@ use native.Mathlib.Omega.{arith}
 use borrow.Author.Rules.{rules}
 use Rattle.text.specs.Text.{numbered}
 use Rattle.text.specs.Overlay.{Laid}
-use Rattle.caller_text.specs.CallerText.{rLine}
+use Rattle.caller_text.specs.CallerText.{r_line}
 use Rattle.text.proofs.Overlaid.{none, joined, laid-length}
 use Rattle.text.proofs.Numbers.{numbered-last}
 use Rattle.caller_text.proofs.put_integers.Statement.{statement}
 use Rattle.caller_text.proofs.put_integers.Tie as tie
 
 abbrev invariant-loop : tie.invariant-loop
-invariant-loop out₀ at r next₀ i₀ out next i = (i ≤ 13) × Laid out₀ at (numbered (rLine r) 0 i) next out
+invariant-loop out₀ at r next₀ i₀ out next i = (i ≤ 13) × Laid out₀ at (numbered (r_line r) 0 i) next out
 
 abbrev decreases-loop : tie.decreases-loop
 decreases-loop out₀ at r next₀ i₀ out next i = 13 - i
@@ -38,7 +38,7 @@ loop-less c = omega arith
 loop-again : tie.Need-loop-preserved invariant-loop decreases-loop
 loop-again c =
     let z : c.before.before.before.before.before.loop.i ≡ 0 + c.before.before.before.before.before.loop.i = omega arith in
-    (omega arith, rw (add-one, numbered-last (rLine c.before.before.before.before.before.before.before.args.t3) 0 c.before.before.before.before.before.loop.i, ← z) (joined c.before.before.before.before.before.loop.invariant.1 c.before.before.put-integer.ensures))
+    (omega arith, rw (add-one, numbered-last (r_line c.before.before.before.before.before.before.before.args.t3) 0 c.before.before.before.before.before.loop.i, ← z) (joined c.before.before.before.before.before.loop.invariant.1 c.before.before.put-integer.ensures))
 
 same_length : tie.Need-same-length invariant-loop decreases-loop
 same_length c = laid-length c.before.loop.invariant.1

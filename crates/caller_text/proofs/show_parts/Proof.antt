@@ -2,13 +2,13 @@
 -- Assumes nothing.
 use mathlib.Core.Path.{ap}
 use borrow.Author.Rules.{rules}
-use Rattle.caller_text.specs.CallerText.{unwoundText}
+use Rattle.caller_text.specs.CallerText.{unwound_text}
 use Rattle.text.proofs.Overlaid.{laid_as}
 use Rattle.caller_text.proofs.show_parts.Statement.{statement}
 use Rattle.caller_text.proofs.show_parts.Tie as tie
 
 returns : tie.Need-returns
-returns c = laid_as (ap unwoundText c.before.before.before.before.unwind.ensures) c.before.before.put-unwound.ensures
+returns c = laid_as (ap unwound_text c.before.before.before.before.unwind.ensures) c.before.before.put-unwound.ensures
 
 pub show-parts-spec : {M : Type 1} → statement M
 show-parts-spec =

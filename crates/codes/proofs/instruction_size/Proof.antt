@@ -6,18 +6,18 @@ use mathlib.Core.Path.{◌≡◌, ap}
 use native.Mathlib.Omega.{arith}
 use borrow.Author.Rules.{rules}
 use Rattle.words.specs.Units.{halfwords}
-use Rattle.codes.specs.Table.{rows, row_in, rowOf}
-use Rattle.codes.specs.as_coded.Rows.{rowNumbers}
+use Rattle.codes.specs.Table.{rows, row_in, row_of}
+use Rattle.codes.specs.AsCoded.Rows.{row_numbers}
 use Rattle.codes.proofs.Rows.{row-few}
 use Rattle.codes.proofs.Sorts.{entry-size, entry_has}
 use Rattle.codes.proofs.instruction_size.Statement.{statement}
 use Rattle.codes.proofs.instruction_size.Tie as tie
 
 returns : tie.Need-returns
-unfolding rows row_in rowNumbers
+unfolding rows row_in row_numbers
 returns c =
     let b = c.args.b in
-    entry_has b c.ranges.b.fits (λ n. (halfwords (n / 8 % 4) ≡ (rowOf b).size) × (n / 8 % 4 ≤ 2))
+    entry_has b c.ranges.b.fits (λ n. (halfwords (n / 8 % 4) ≡ (row_of b).size) × (n / 8 % 4 ≤ 2))
     (ap halfwords (entry-size b), omega (arith, entry-size b, (row-few b).small))
 
 pub instruction-size-spec : {M : Type 1} → statement M

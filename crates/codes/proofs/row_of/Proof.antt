@@ -3,7 +3,7 @@
 use mathlib.Core.Path.{◌≡◌, refl, ap, ◌∙◌}
 use lib.ListN.{get_or}
 use borrow.Author.Rules.{rules}
-use Rattle.codes.specs.as_coded.Rows.{entry_of}
+use Rattle.codes.specs.AsCoded.Rows.{entry_of}
 use Rattle.codes.proofs.Sorts.{entry_has}
 use Rattle.codes.proofs.row_of.Statement.{statement}
 use Rattle.codes.proofs.row_of.Tie as tie

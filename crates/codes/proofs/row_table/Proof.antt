@@ -2,12 +2,12 @@
 -- Assumes nothing.
 use mathlib.Core.Path.{refl}
 use Rattle.codes.specs.Table.{rows, row_in}
-use Rattle.codes.specs.as_coded.Rows.{rowNumbers}
+use Rattle.codes.specs.AsCoded.Rows.{row_numbers}
 use Rattle.codes.proofs.row_table.Statement.{statement}
 use Rattle.codes.proofs.row_table.Tie as tie
 
 returns : tie.Need-returns
-unfolding rows row_in rowNumbers
+unfolding rows row_in row_numbers
 returns c = refl
 
 pub row-table-spec : {M : Type 1} → statement M

@@ -5,8 +5,8 @@ use mathlib.Core.Path.{sym, ap, ◌∙◌}
 use lib.ListN.{get_or, take, drop}
 use native.Mathlib.Omega.{arith}
 use borrow.Author.Rules.{rules}
-use Rattle.words.specs.Units.{codeBytes}
-use Rattle.codes.specs.Table.{rowOf}
+use Rattle.words.specs.Units.{code_bytes}
+use Rattle.codes.specs.Table.{row_of}
 use Rattle.codes.specs.Code.{value, taken}
 use Rattle.codes.proofs.Rows.{row-few}
 use Rattle.codes.proofs.Sorts.{entry-count, entry-halfwords}
@@ -33,7 +33,7 @@ take-as-requires : tie.Need-take-as-requires
 take-as-requires c κs =
     let a = c.before.before.before.before.before.before.args in
     let e = c.before.before.row_of.ensures in
-    (entry-halfwords _ e, ap (λ n. codeBytes (a.at.0 + n)) (entry-count _ e))
+    (entry-halfwords _ e, ap (λ n. code_bytes (a.at.0 + n)) (entry-count _ e))
 
 returns-3 : tie.Need-returns-3
 returns-3 c =
@@ -41,7 +41,7 @@ returns-3 c =
     let b = get_or a.codes.now a.at.0 0 in
     let n = entry-count b c.before.before.before.row_of.ensures in
     c.take-as.ensures
-    ∙ ap (λ v. taken a.at.0 (rowOf b) ((rowOf b).means v))
+    ∙ ap (λ v. taken a.at.0 (row_of b) ((row_of b).means v))
     (c.before.value.ensures ∙ ap (λ k. value (take k (drop a.at.0 a.codes.now)) 0) n)
     ∙ sym (take_whole a.codes.now a.at.0 (omega arith) (omega (arith, n, c.before.before.if2.false)))
 

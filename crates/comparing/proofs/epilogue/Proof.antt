@@ -6,15 +6,15 @@ use mathlib.Core.Bool.{true, false}
 use lib.ListN.{length}
 use native.Mathlib.Omega.{arith}
 use borrow.Author.Rules.{rules}
-use Rattle.words.specs.Units.{codeBytes}
+use Rattle.words.specs.Units.{code_bytes}
 use Rattle.words.specs.Answer.{if◌then◌else◌}
 use Rattle.words.proofs.Tests.{if-true, if-false}
 use Rattle.unwinding.proofs.Scanning.{take_next}
 use Rattle.codes.specs.Code.{size, seen}
 use Rattle.codes.proofs.Scanning.{takes, take-size}
 use Rattle.expected.specs.Expected.{after}
-use Rattle.comparing.specs.Items.{scanCoded}
-use Rattle.comparing.specs.as_coded.Passes.{last_of, test, epiloguePass}
+use Rattle.comparing.specs.Items.{scan_coded}
+use Rattle.comparing.specs.AsCoded.Passes.{last_of, test, epilogue_pass}
 use Rattle.comparing.specs.declared.Compared.TheVariants.{Differs}
 use Rattle.comparing.proofs.Scanning.{scan-last, scan-bad}
 use Rattle.comparing.proofs.Passing.{not-false, not-true, taken-listed, scan-past, epilogue-one, epilogue-none}
@@ -23,8 +23,8 @@ use Rattle.comparing.proofs.epilogue.Tie as tie
 
 abbrev invariant-loop : tie.invariant-loop
 invariant-loop t codes code start at₀ i₀ at i =
-    (epiloguePass code at (scanCoded codes (codeBytes i)).list (scanCoded codes (codeBytes i)).ending
-    ≡ epiloguePass code start (scanCoded codes (codeBytes i₀)).list (scanCoded codes (codeBytes i₀)).ending)
+    (epilogue_pass code at (scan_coded codes (code_bytes i)).list (scan_coded codes (code_bytes i)).ending
+    ≡ epilogue_pass code start (scan_coded codes (code_bytes i₀)).list (scan_coded codes (code_bytes i₀)).ending)
     × (at + 4 * (length codes - i) < 2 ^ 64)
 
 abbrev decreases-loop : tie.decreases-loop
@@ -61,10 +61,10 @@ loop-again c =
     let s = a.code.now in
     let k = a.codes.now in
     let m = take_next takes k l.i (ap seen e) in
-    let r = scanCoded k t.0.1.0 in
+    let r = scan_coded k t.0.1.0 in
     let met : test s l.at (after (last_of r.list r.ending) t.0.0) ≡ true =
     sym (c.before.before.stands.ensures ∙ ap (test s l.at) (c.before.before.before.in-epilogue.ensures ∙ ap (λ b. after b t.0.0) c.before.before.before.before.returns-at.ensures)) ∙ not-false c.before.before.stands.result c.before.if1.false in (
-      ap (λ n. epiloguePass s (l.at + n) r.list r.ending) c.halfword-bytes.ensures.0
+      ap (λ n. epilogue_pass s (l.at + n) r.list r.ending) c.halfword-bytes.ensures.0
           ∙ if-true _ (Differs l.at) met
           ∙ sym (epilogue-one s k l.i e l.at)
           ∙ l.invariant.0,
@@ -79,10 +79,10 @@ returns c =
     let e = sym c.before.before.before.before.before.before.before.before.take_at.ensures ∙ t.1 in
     let s = a.code.now in
     let k = a.codes.now in
-    let r = scanCoded k t.0.1.0 in
+    let r = scan_coded k t.0.1.0 in
     let met : test s l.at (after (last_of r.list r.ending) t.0.0) ≡ false =
     sym (c.before.stands.ensures ∙ ap (test s l.at) (c.before.before.in-epilogue.ensures ∙ ap (λ b. after b t.0.0) c.before.before.before.returns-at.ensures)) ∙ not-true c.before.stands.result c.if1.true in
-    if-false (epiloguePass s (l.at + size t.0.0) r.list r.ending) _ met ∙ sym (epilogue-one s k l.i e l.at) ∙ l.invariant.0
+    if-false (epilogue_pass s (l.at + size t.0.0) r.list r.ending) _ met ∙ sym (epilogue-one s k l.i e l.at) ∙ l.invariant.0
 
 returns-2 : tie.Need-returns-2 invariant-loop decreases-loop
 returns-2 c =

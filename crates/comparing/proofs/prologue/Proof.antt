@@ -6,15 +6,15 @@ use mathlib.Core.Path.{◌≡◌, refl, sym, ap, ap₂, ◌∙◌}
 use lib.ListN.{length, get_or}
 use native.Mathlib.Omega.{arith}
 use borrow.Author.Rules.{rules}
-use Rattle.words.specs.Units.{codeBytes}
+use Rattle.words.specs.Units.{code_bytes}
 use Rattle.words.specs.Answer.{if◌then◌else◌}
 use Rattle.unwinding.specs.CodeList.{total}
 use Rattle.unwinding.proofs.Scanning.{take_next}
 use Rattle.codes.specs.Code.{seen}
 use Rattle.codes.proofs.Scanning.{takes}
 use Rattle.expected.specs.Expected.{before}
-use Rattle.comparing.specs.Items.{size_of, scanCoded}
-use Rattle.comparing.specs.as_coded.Passes.{test, prologuePass}
+use Rattle.comparing.specs.Items.{size_of, scan_coded}
+use Rattle.comparing.specs.AsCoded.Passes.{test, prologue_pass}
 use Rattle.comparing.specs.declared.Compared.TheVariants.{Same, Differs}
 use Rattle.comparing.proofs.Scanning.{scan-last, scan-bad}
 use Rattle.comparing.proofs.Passing.{scan-past, total-one, prologue-one, prologue-none}
@@ -23,8 +23,8 @@ use Rattle.comparing.proofs.prologue.Tie as tie
 
 abbrev invariant-loop : tie.invariant-loop
 invariant-loop t codes code size found₀ left₀ i₀ found left i =
-    (left ≡ total size_of (scanCoded codes (codeBytes i)).list)
-    × (prologuePass code (scanCoded codes (codeBytes i)).list found ≡ prologuePass code (scanCoded codes (codeBytes 0)).list Same)
+    (left ≡ total size_of (scan_coded codes (code_bytes i)).list)
+    × (prologue_pass code (scan_coded codes (code_bytes i)).list found ≡ prologue_pass code (scan_coded codes (code_bytes 0)).list Same)
 
 abbrev decreases-loop : tie.decreases-loop
 decreases-loop t codes code size found₀ left₀ i₀ found left i = length codes - i
@@ -55,11 +55,11 @@ loop-again c =
     let e = sym c.before.before.before.before.before.before.before.before.before.take_at.ensures ∙ t.1 in
     let s = a.code.now in
     let k = a.codes.now in
-    let n = total size_of (scanCoded k t.0.1.0).list in
+    let n = total size_of (scan_coded k t.0.1.0).list in
     let z : l.left - c.before.before.before.before.halfword-bytes.result ≡ n = omega (arith, l.invariant.0, total-one s k l.i e, c.before.before.before.before.halfword-bytes.ensures.0) in
     let met : c.before.stands.result ≡ test s n (before (get_or k l.i 0) t.0.0) = c.before.stands.ensures ∙ ap₂ (test s) z c.before.before.in-prologue.ensures in (
       z,
-      ap (prologuePass s (scanCoded k t.0.1.0).list) (c.noted.ensures ∙ ap₂ (λ m d. if m then l.found else Differs d) met z)
+      ap (prologue_pass s (scan_coded k t.0.1.0).list) (c.noted.ensures ∙ ap₂ (λ m d. if m then l.found else Differs d) met z)
           ∙ sym (prologue-one s k l.i e l.found)
           ∙ l.invariant.1,
     )

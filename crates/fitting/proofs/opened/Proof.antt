@@ -2,7 +2,7 @@
 use Prim.Native.Nat.{◌*◌}
 use mathlib.Core.Path.{sym, ◌∙◌}
 use native.Mathlib.Omega.{arith}
-use Rattle.words.specs.Units.{codeBytes}
+use Rattle.words.specs.Units.{code_bytes}
 use Rattle.reader.proofs.Sizes.{scanned-ends}
 use Rattle.fitting.proofs.Planned.{open-ends, open-refused, open-total}
 use borrow.Author.Rules.{rules}
@@ -19,7 +19,7 @@ enum-known-list : tie.Need-enum-known-list
 enum-known-list c = search rules
 
 bytes-of-requires : tie.Need-bytes-of-requires
-bytes-of-requires c κs = let y = c.before.before.before.before.before.before.before in omega (arith, (scanned-ends y.args.codes.now (codeBytes 0) _ _ (sym c.before.before.before.scan.ensures ∙ c.before.list.given.1)).few, y.requires.1)
+bytes-of-requires c κs = let y = c.before.before.before.before.before.before.before in omega (arith, (scanned-ends y.args.codes.now (code_bytes 0) _ _ (sym c.before.before.before.scan.ensures ∙ c.before.list.given.1)).few, y.requires.1)
 
 prologue-requires : tie.Need-prologue-requires
 prologue-requires c κs = (c.before.before.before.before.before.before.before.before.requires.0, c.bytes_of.ensures ∙ open-total _ _ _ (sym c.before.before.before.before.scan.ensures ∙ c.before.before.list.given.1))

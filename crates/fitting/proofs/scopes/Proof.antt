@@ -5,18 +5,18 @@ use mathlib.Core.Path.{◌≡◌, sym, ap, ◌∙◌}
 use lib.ListN.{length}
 use native.Mathlib.Omega.{arith}
 use borrow.Author.Rules.{rules}
-use Rattle.record.specs.as_coded.Plan.{scopesFrom}
+use Rattle.record.specs.AsCoded.Plan.{scopes_from}
 use Rattle.record.proofs.Shapes.{scopes-inside}
-use Rattle.comparing.specs.as_coded.Passes.{or_else}
+use Rattle.comparing.specs.AsCoded.Passes.{or_else}
 use Rattle.comparing.specs.declared.Compared.{Compared}
-use Rattle.fitting.specs.as_coded.Passes.{scopePass, scopesPass}
+use Rattle.fitting.specs.AsCoded.Passes.{scope_pass, scopes_pass}
 use Rattle.fitting.proofs.Planned.{pass-done, pass-next}
 use Rattle.fitting.proofs.scopes.Statement.{statement}
 use Rattle.fitting.proofs.scopes.Tie as tie
 
 abbrev invariant-loop : tie.invariant-loop
 invariant-loop t codes plan xdata code span n k₀ k =
-    (k ≤ n) × (scopesPass code codes span (scopesFrom plan.scopes xdata k (n - k)) ≡ scopesPass code codes span (scopesFrom plan.scopes xdata 0 n))
+    (k ≤ n) × (scopes_pass code codes span (scopes_from plan.scopes xdata k (n - k)) ≡ scopes_pass code codes span (scopes_from plan.scopes xdata 0 n))
 
 abbrev decreases-loop : tie.decreases-loop
 decreases-loop t codes plan xdata code span n k₀ k = n - k
@@ -25,7 +25,7 @@ loop-holds : tie.Need-loop-init invariant-loop decreases-loop
 loop-holds c =
     let a = c.before.before.before.before.before.args in
     let z : c.count_of.result - 0 ≡ c.count_of.result = omega arith in
-    (omega arith, ap (λ n. scopesPass a.code.now a.codes.now c.before.Span-of.result (scopesFrom a.plan.scopes a.xdata.now 0 n)) z)
+    (omega arith, ap (λ n. scopes_pass a.code.now a.codes.now c.before.Span-of.result (scopes_from a.plan.scopes a.xdata.now 0 n)) z)
 
 scope-requires : tie.Need-scope-requires invariant-loop decreases-loop
 scope-requires c κs =
@@ -56,8 +56,8 @@ loop-again c =
     let q = a.plan.scopes in
     let span = c.before.before.before.before.before.before.before.Span-of.result in
     let n = c.before.before.before.before.before.before.count_of.result in
-    let found = c.before.before.scope2.ensures ∙ ap (scopePass s k span) c.before.before.before.scope.ensures in
-    let left = scopesPass s k span (scopesFrom q x (l.k + 1) (n - (l.k + 1))) in
+    let found = c.before.before.scope2.ensures ∙ ap (scope_pass s k span) c.before.before.before.scope.ensures in
+    let left = scopes_pass s k span (scopes_from q x (l.k + 1) (n - (l.k + 1))) in
     let step = ap (λ (d : Compared). or_else d left) (sym c.enum_told.given.1 ∙ found) ∙ sym (pass-next s k x q span l.k n c.before.before.before.before.loop-test.true) in
     (omega arith, step ∙ l.invariant.1)
 
@@ -71,14 +71,14 @@ returns c =
     let q = a.plan.scopes in
     let span = c.before.before.before.before.before.before.before.Span-of.result in
     let n = c.before.before.before.before.before.before.count_of.result in
-    let found = c.before.before.scope2.ensures ∙ ap (scopePass s k span) c.before.before.before.scope.ensures in
-    let left = scopesPass s k span (scopesFrom q x (l.k + 1) (n - (l.k + 1))) in
+    let found = c.before.before.scope2.ensures ∙ ap (scope_pass s k span) c.before.before.before.scope.ensures in
+    let left = scopes_pass s k span (scopes_from q x (l.k + 1) (n - (l.k + 1))) in
     c.enum-told2.given.1
     ∙ ap (λ (d : Compared). or_else d left) (sym c.enum-told2.given.1 ∙ found)
     ∙ sym (pass-next s k x q span l.k n c.before.before.before.before.loop-test.true)
     ∙ l.invariant.1
-    ∙ ap (λ z. scopesPass s k z (scopesFrom q x 0 n)) c.before.before.before.before.before.before.before.Span-of.ensures.0
-    ∙ ap (λ z. scopesPass s k a.plan.span (scopesFrom q x 0 z)) c.before.before.before.before.before.before.count_of.ensures.0
+    ∙ ap (λ z. scopes_pass s k z (scopes_from q x 0 n)) c.before.before.before.before.before.before.before.Span-of.ensures.0
+    ∙ ap (λ z. scopes_pass s k a.plan.span (scopes_from q x 0 z)) c.before.before.before.before.before.before.count_of.ensures.0
 
 returns-2 : tie.Need-returns-2 invariant-loop decreases-loop
 returns-2 c =
@@ -93,8 +93,8 @@ returns-2 c =
     let z : n ≡ l.k = omega (arith, l.invariant.0) in
     sym (pass-done s k x q span l.k n z)
     ∙ l.invariant.1
-    ∙ ap (λ z. scopesPass s k z (scopesFrom q x 0 n)) c.before.before.before.Span-of.ensures.0
-    ∙ ap (λ z. scopesPass s k a.plan.span (scopesFrom q x 0 z)) c.before.before.count_of.ensures.0
+    ∙ ap (λ z. scopes_pass s k z (scopes_from q x 0 n)) c.before.before.before.Span-of.ensures.0
+    ∙ ap (λ z. scopes_pass s k a.plan.span (scopes_from q x 0 z)) c.before.before.count_of.ensures.0
 
 pub scopes-spec : {M : Type 1} → statement M
 scopes-spec =

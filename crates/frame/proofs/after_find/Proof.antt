@@ -1,7 +1,7 @@
 -- By what was found, and then by where SP stands.
 -- Assumes nothing.
 use mathlib.Core.Path.{sym, ◌∙◌}
-use Rattle.machine.specs.as_coded.Answers.{regs}
+use Rattle.machine.specs.AsCoded.Answers.{regs}
 use Rattle.frame.specs.Frame.{inputs}
 use Rattle.frame.proofs.Finding.{found-refused, found_nothing, found-record, after-refused, after-fell, after_none, after-record}
 use borrow.Author.Rules.{rules}

@@ -4,8 +4,8 @@ use mathlib.Core.Path.{◌≡◌, refl, sym, ◌∙◌}
 use mathlib.Core.Bool.{◌&&◌}
 use Rattle.lent.specs.Lent.{lent}
 use Rattle.words.proofs.Tests.{and-true, and-false, and-joined}
-use Rattle.xdata.specs.Xdata.{fitXdata}
-use Rattle.frame.specs.Frame.{fitStack}
+use Rattle.xdata.specs.Xdata.{fit_xdata}
+use Rattle.frame.specs.Frame.{fit_stack}
 use Rattle.frame.proofs.check.Statement.{statement}
 use Rattle.frame.proofs.check.Tie as tie
 
@@ -13,7 +13,7 @@ use Rattle.frame.proofs.check.Tie as tie
 fits :
     (c : tie.Joined1)
     → (let a = c.before.before.before.before.before.before.args in
-    c.if1.if2 ≡ (fitStack (lent a.base a.stack.now) && fitXdata (lent a.rva a.xdata.now)))
+    c.if1.if2 ≡ (fit_stack (lent a.base a.stack.now) && fit_xdata (lent a.rva a.xdata.now)))
 fits c = and-joined c.if1.branch c.before.fit-stack.ensures (λ w. (w.0.taken, w.2 ∙ w.1.ensures)) (λ w. (w.0.left, w.1))
 
 returns : tie.Need-returns

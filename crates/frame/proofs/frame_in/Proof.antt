@@ -1,7 +1,7 @@
 -- Where the checks pass, what is found by them is what the definition finds; else 1.
 -- Assumes nothing.
 use mathlib.Core.Path.{◌≡◌, sym, ap, ◌∙◌}
-use Rattle.machine.specs.as_coded.Answers.{regs}
+use Rattle.machine.specs.AsCoded.Answers.{regs}
 use Rattle.pdata.specs.declared.Checked.{Checked}
 use Rattle.pdata.specs.Pdata.{find, checked}
 use Rattle.frame.specs.Frame.{inputs}

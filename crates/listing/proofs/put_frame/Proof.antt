@@ -6,7 +6,7 @@ use mathlib.Core.List.{List, ◌++◌, append_assoc}
 use borrow.Author.Rules.{rules}
 use Rattle.text.specs.Text.{text, decimal, hex8, addresses}
 use Rattle.text.proofs.Overlaid.{joined, joined-two, laid_as}
-use Rattle.listing.specs.Listing.{placeName}
+use Rattle.listing.specs.Listing.{place_name}
 use Rattle.listing.proofs.put_frame.Statement.{statement}
 use Rattle.listing.proofs.put_frame.Tie as tie
 
@@ -17,7 +17,7 @@ behind s pc sp = simp append_assoc
 returns : tie.Need-returns
 returns c =
     let a = c.before.before.before.before.before.before.before.before.before.before.before.before.before.args in
-    joined-two (text (placeName a.frame.place)) (text "\n")
+    joined-two (text (place_name a.frame.place)) (text "\n")
     (laid_as (behind (decimal a.number) a.frame.pc a.frame.sp) (joined c.before.before.before.before.before.before.before.before.before.before.put-decimal.ensures c.before.before.before.before.before.before.put-addresses.ensures))
     c.before.before.put-place.ensures
 

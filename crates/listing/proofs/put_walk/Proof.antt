@@ -6,10 +6,10 @@ use mathlib.Core.Path.{◌≡◌, refl, sym, subst}
 use native.Mathlib.Omega.{arith}
 use Rattle.words.specs.Answer.{if◌then◌else◌}
 use Rattle.frame.specs.Frame.{inputs}
-use Rattle.unwinding.specs.as_coded.Turn.{begun}
+use Rattle.unwinding.specs.AsCoded.Turn.{begun}
 use Rattle.walking.specs.declared.Standing.{Standing}
 use Rattle.walking.specs.Walk.{arm, walk}
-use Rattle.walking.specs.as_coded.InPlace.{stands}
+use Rattle.walking.specs.AsCoded.InPlace.{stands}
 use Rattle.text.specs.Overlay.{Laid}
 use Rattle.text.proofs.Overlaid.{none, joined, laid-length}
 use Rattle.listing.specs.Listing.{printed}

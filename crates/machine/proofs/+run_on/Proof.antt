@@ -9,13 +9,13 @@ use borrow.Fn.Kinds.{In}
 use borrow.Fn.PlainCycle.{Measures, is, falls, and}
 use lib.ListN.{length, get_or}
 use Rattle.lent.specs.Lent.{lent}
-use Rattle.codes.specs.Code.{takeAt, seen}
+use Rattle.codes.specs.Code.{take_at, seen}
 use Rattle.codes.specs.declared.Taken.TheVariants.{One}
 use Rattle.unwinding.proofs.Scanning.{Onward, take_next}
 use Rattle.codes.proofs.Scanning.{takes}
 use Rattle.words.specs.Answer.{refuse}
 use Rattle.machine.specs.Step.{step}
-use Rattle.machine.specs.as_coded.Answers.{regs}
+use Rattle.machine.specs.AsCoded.Answers.{regs}
 use Rattle.machine.proofs.Answers.{came-given, came_refused, clash}
 use Rattle.machine.proofs.Refusing.{step-refused}
 use Rattle.machine.proofs.Running.{first-given, first-refused, run-last, run-bad, count-first, count-last}
@@ -43,7 +43,7 @@ told t = (take-at-reads.Asked, take-at-reads.Learnt, undo-one-reads.Asked, undo-
 -- the code that was taken
 taken :
     (t : ℕ) (c : run-on-lts.After-code (told t) (run-on-at t) run-on.Post)
-    → takeAt c.before.before.before.before.before.args.codes.now c.before.before.before.before.before.args.at
+    → take_at c.before.before.before.before.before.args.codes.now c.before.before.before.before.before.args.at
     ≡ One c.code.given.0.0 c.code.given.0.1.0
 taken t c = sym c.before.before.take_at.ensures ∙ c.code.given.1
 

@@ -4,7 +4,7 @@ use mathlib.Core.Path.{sym, ap, ◌∙◌}
 use native.Mathlib.Omega.{arith}
 use borrow.Author.Rules.{rules}
 use Rattle.lent.specs.Lent.{Lent, lent}
-use Rattle.machine.specs.as_coded.Answers.{loaded}
+use Rattle.machine.specs.AsCoded.Answers.{loaded}
 use Rattle.machine.specs.declared.Loaded.TheVariants.{Word}
 use Rattle.machine.proofs.Loading.{held, load-held, load-none}
 use Rattle.machine.proofs.load.Statement.{statement}

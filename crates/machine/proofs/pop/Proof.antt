@@ -4,7 +4,7 @@ use mathlib.Core.Path.{sym, ◌∙◌}
 use native.Mathlib.Omega.{arith}
 use borrow.Author.Rules.{rules}
 use Rattle.lent.specs.Lent.{lent}
-use Rattle.machine.specs.as_coded.Answers.{regs}
+use Rattle.machine.specs.AsCoded.Answers.{regs}
 use Rattle.machine.proofs.Listed.{pop-short, pop-nothing}
 use Rattle.machine.proofs.pop.Statement.{statement}
 use Rattle.machine.proofs.pop.Tie as tie

@@ -13,8 +13,8 @@ use borrow.Author.Rules.{rules}
 use Rattle.lent.specs.Lent.{Lent, lent}
 use Rattle.words.specs.Answer.{ok}
 use Rattle.machine.specs.Step.{pop}
-use Rattle.machine.specs.as_coded.Answers.{regs}
-use Rattle.machine.specs.as_coded.Listed.{wordsListed}
+use Rattle.machine.specs.AsCoded.Answers.{regs}
+use Rattle.machine.specs.AsCoded.Listed.{words_listed}
 use Rattle.machine.proofs.Loading.{held, load_at}
 use Rattle.machine.proofs.Listed.{words-none, words-with, words-without, words-most, words-within}
 use Rattle.machine.proofs.Popping.{goes_on, listed, listed-word, listed-not, pop-none, pop_next}
@@ -24,7 +24,7 @@ use Rattle.machine.proofs.pop_in.Tie as tie
 abbrev invariant-loop : tie.invariant-loop
 invariant-loop list r₀ sp lr base stack o₀ back₀ x₀ r o back x =
     (x ≤ 15)
-    × (base + o ≡ sp + 4 * wordsListed list x)
+    × (base + o ≡ sp + 4 * words_listed list x)
     × ((pc : ℕ) (d : List ℕ) → pop (lent base stack) list x (regs r₀ sp lr pc d) ≡ ok (regs r (base + o) back pc d))
 
 abbrev decreases-loop : tie.decreases-loop
@@ -41,7 +41,7 @@ there h e =
     let l = h.before.before.loop in
     let s = h.before.before.before.before in
     let within = words-within s.args.list l.x 15 (sym h.has.ensures ∙ e) (omega arith) in
-    omega (arith, held (stack_of h) s.args.sp (4 * wordsListed s.args.list 15) s.requires, within, l.invariant.1)
+    omega (arith, held (stack_of h) s.args.sp (4 * words_listed s.args.list 15) s.requires, within, l.invariant.1)
 
 -- what a turn came to
 turned :
@@ -66,7 +66,7 @@ turned c pc d =
 passed :
     (c : tie.Joined1 invariant-loop decreases-loop)
     → (let a = c.before.before.before.before.before.args in
-    a.base + c.if1.o ≡ a.sp + 4 * wordsListed a.list (c.before.before.before.loop.x + 1))
+    a.base + c.if1.o ≡ a.sp + 4 * words_listed a.list (c.before.before.before.loop.x + 1))
 passed c =
     let l = c.before.before.before.loop in
     let a = c.before.before.before.before.before.args in
@@ -80,7 +80,7 @@ passed c =
 sub-o : tie.Need-overflow-sub-o invariant-loop decreases-loop
 sub-o c =
     let a = c.before.args in
-    (held (lent a.base a.stack.now) a.sp (4 * wordsListed a.list 15) c.before.requires).0
+    (held (lent a.base a.stack.now) a.sp (4 * words_listed a.list 15) c.before.requires).0
 
 cast-o : tie.Need-overflow-cast-o invariant-loop decreases-loop
 cast-o c = omega arith

@@ -5,7 +5,7 @@ use mathlib.Core.Path.{sym, ap, ◌∙◌}
 use native.Mathlib.Omega.{arith}
 use borrow.Author.Rules.{rules}
 use Rattle.lent.specs.Lent.{lent, holds}
-use Rattle.machine.specs.as_coded.Listed.{wordsListed}
+use Rattle.machine.specs.AsCoded.Listed.{words_listed}
 use Rattle.machine.proofs.Loading.{held, holding}
 use Rattle.machine.proofs.Listed.{words-most}
 use Rattle.machine.proofs.room.Statement.{statement}
@@ -18,7 +18,7 @@ returns : tie.Need-returns
 returns c =
     let a = c.before.before.before.args in
     let k = lent a.base a.stack.now in
-    let n = 4 * wordsListed a.list 15 in
+    let n = 4 * words_listed a.list 15 in
     let h = held k a.sp 60 (sym c.before.holds.ensures ∙ c.if1.true) in
     c.if1.true ∙ sym (holding k a.sp n h.0 (omega (arith, h.1, words-most a.list 15)))
 

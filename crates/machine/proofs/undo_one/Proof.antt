@@ -6,7 +6,7 @@ use borrow.Author.Rules.{rules}
 use Rattle.lent.specs.Lent.{Lent, lent}
 use Rattle.words.specs.Answer.{ok}
 use Rattle.machine.specs.Step.{stands, effect, step}
-use Rattle.machine.specs.as_coded.Answers.{regs}
+use Rattle.machine.specs.AsCoded.Answers.{regs}
 use Rattle.machine.specs.declared.Regs.{Regs}
 use Rattle.machine.proofs.Answers.{came-given, came_refused}
 use Rattle.machine.proofs.Standing.{stands-true}

@@ -8,8 +8,8 @@ use native.Mathlib.Omega.{arith}
 use borrow.Author.Rules.{rules}
 use Rattle.lent.specs.Lent.{lent}
 use Rattle.words.specs.Answer.{ok}
-use Rattle.machine.specs.Step.{load, popD, vpop}
-use Rattle.machine.specs.as_coded.Answers.{regs}
+use Rattle.machine.specs.Step.{load, pop_d, vpop}
+use Rattle.machine.specs.AsCoded.Answers.{regs}
 use Rattle.machine.proofs.Answers.{two-words}
 use Rattle.machine.proofs.Loading.{load_inside}
 use Rattle.machine.proofs.Popping.{goes_on, stops, vpop-none, vpop-next, d-words, d-refused}
@@ -55,8 +55,8 @@ returns c r pc =
     let h = regs r l.at a.lr pc l.d in
     let bad = d-refused k l.x r l.at a.lr pc l.d _ (sym t.load-two.ensures ∙ c.before.why.given.1) in
     sym
-    (stops (λ n. vpop k a.s n g) (λ n y. popD k (a.s + n) y) (vpop-next k a.s g) (l.x - a.s) (a.e + 1 - a.s) h _ (l.invariant.2 r pc)
-    (ap (λ y. popD k y h) here ∙ bad) (omega arith))
+    (stops (λ n. vpop k a.s n g) (λ n y. pop_d k (a.s + n) y) (vpop-next k a.s g) (l.x - a.s) (a.e + 1 - a.s) h _ (l.invariant.2 r pc)
+    (ap (λ y. pop_d k y h) here ∙ bad) (omega arith))
 
 add_at : tie.Need-overflow-add-at invariant-loop decreases-loop
 add_at c = omega (arith, load_inside _ _ _ (loaded c).1)
@@ -81,8 +81,8 @@ loop-again c =
           let h = regs r l.at a.lr pc l.d in
           let good = d-words k l.x r l.at a.lr pc l.d _ _ _ (loaded c).0 (loaded c).1 c.set-d.ensures in
           rw on at
-          (goes_on (λ n. vpop k a.s n g) (λ n y. popD k (a.s + n) y) (vpop-next k a.s g) (l.x - a.s) h _ (l.invariant.2 r pc)
-          (ap (λ y. popD k y h) here ∙ good))),
+          (goes_on (λ n. vpop k a.s n g) (λ n y. pop_d k (a.s + n) y) (vpop-next k a.s g) (l.x - a.s) h _ (l.invariant.2 r pc)
+          (ap (λ y. pop_d k y h) here ∙ good))),
     )
 
 returns-2 : tie.Need-returns-2 invariant-loop decreases-loop

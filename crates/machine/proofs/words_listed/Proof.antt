@@ -5,13 +5,13 @@ use mathlib.Core.Path.{◌≡◌, sym, ap, ◌∙◌}
 use mathlib.Core.Logic.{⊎_elim}
 use native.Mathlib.Numerals.{add-one}
 use native.Mathlib.Omega.{arith}
-use Rattle.machine.specs.as_coded.Listed.{wordsListed}
+use Rattle.machine.specs.AsCoded.Listed.{words_listed}
 use Rattle.machine.proofs.Listed.{words-none, words-with, words-without, words-most}
 use Rattle.machine.proofs.words_listed.Statement.{statement}
 use Rattle.machine.proofs.words_listed.Tie as tie
 
 abbrev invariant-loop : tie.invariant-loop
-invariant-loop list n₀ x₀ n x = (x ≤ 15) × (n ≡ wordsListed list x)
+invariant-loop list n₀ x₀ n x = (x ≤ 15) × (n ≡ words_listed list x)
 
 abbrev decreases-loop : tie.decreases-loop
 decreases-loop list n₀ x₀ n x = 15 - x
@@ -43,14 +43,14 @@ loop-again c =
           (λ w. w.1 ∙ ap (λ m. m + 1) l.invariant.1 ∙ sym (words-with list l.x (has ∙ w.0.taken)))
           (λ w. w.1 ∙ l.invariant.1 ∙ sym (words-without list l.x (has ∙ w.0.left)))
           c.if1.branch
-          ∙ ap (wordsListed list) (sym (add-one l.x)),
+          ∙ ap (words_listed list) (sym (add-one l.x)),
     )
 
 returns : tie.Need-returns invariant-loop decreases-loop
 returns c =
     let l = c.before.loop in
     let all : l.x ≡ 15 = omega arith in
-    l.invariant.1 ∙ ap (wordsListed c.before.before.args.list) all
+    l.invariant.1 ∙ ap (words_listed c.before.before.args.list) all
 
 pub words-listed-spec : {M : Type 1} → statement M
 words-listed-spec = tie.close (tie.spec invariant-loop decreases-loop loop-holds has-requires add-n add-x loop-less loop-again returns)

@@ -8,7 +8,7 @@ use lib.ListN.{length, length-take}
 use native.Mathlib.Omega.{arith}
 use Rattle.words.specs.Answer.{if◌then◌else◌}
 use Rattle.text.proofs.Overlaid.{laid-length}
-use Rattle.outlining.specs.as_coded.Parts.{Ready}
+use Rattle.outlining.specs.AsCoded.Parts.{Ready}
 use Rattle.outlining.proofs.Laying.{next-ready, part-less}
 use borrow.Author.Rules.{rules}
 use Rattle.outline_programs.proofs.write_parts.Statement.{statement}

@@ -5,7 +5,7 @@ use lib.ListN.{length, length-take, length-append}
 use native.Mathlib.Omega.{arith}
 use Rattle.text.specs.Text.{text}
 use Rattle.text.proofs.Overlaid.{laid-length}
-use Rattle.listing.specs.Listing.{refusedText}
+use Rattle.listing.specs.Listing.{refused_text}
 use Rattle.listing.proofs.Sizes.{refused-length}
 use borrow.Author.Rules.{rules}
 use Rattle.outline_programs.proofs.write_refused.Statement.{statement}
@@ -16,7 +16,7 @@ slice-reshare-prefix-put c =
     let w = c.before.before.put-refusal.ensures in
     let start = c.before.before.before.before.before in
     let why = start.args.why in
-    omega (arith, w.place, length-append (refusedText why) (text "\n"), refused-length why, laid-length w, start.requires)
+    omega (arith, w.place, length-append (refused_text why) (text "\n"), refused-length why, laid-length w, start.requires)
 
 slice-aggregate-put : tie.Need-slice-aggregate-put
 slice-aggregate-put c =
@@ -24,7 +24,7 @@ slice-aggregate-put c =
     let w = n.ensures in
     let start = c.before.before.before.before.before.before in
     let why = start.args.why in
-    omega (arith, w.place, length-append (refusedText why) (text "\n"), refused-length why, laid-length w, start.requires, length-take n.result n.new.0)
+    omega (arith, w.place, length-append (refused_text why) (text "\n"), refused-length why, laid-length w, start.requires, length-take n.result n.new.0)
 
 pub write-refused-spec : {M : Type 1} → statement M
 write-refused-spec =

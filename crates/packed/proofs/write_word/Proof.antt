@@ -2,7 +2,7 @@
 use mathlib.Core.Path.{sym, ap, ◌∙◌}
 use mathlib.Core.Logic.{⊎_elim}
 use Rattle.words.specs.declared.Verdict.TheVariants.{Given}
-use Rattle.packed.specs.Packed.{wordAnswer}
+use Rattle.packed.specs.Packed.{word_answer}
 use Rattle.packed.proofs.Words.{fit-true, write-given, write-large, write-not-allowed}
 use Rattle.packed.proofs.write_word.Statement.{statement}
 use Rattle.packed.proofs.write_word.Tie as tie
@@ -20,13 +20,13 @@ returns : tie.Need-returns
 returns c =
     let p = c.before.before.before.before.before.args.p in
     ap (λ w. record { verdict = Given; word = w }) c.word_of.ensures
-    ∙ ap wordAnswer (sym (write-given p (sym c.before.before.before.before.fields_fit.ensures ∙ c.before.before.before.if1.true) (sym c.before.before.allowed.ensures ∙ c.before.if2.true)))
+    ∙ ap word_answer (sym (write-given p (sym c.before.before.before.before.fields_fit.ensures ∙ c.before.before.before.if1.true) (sym c.before.before.allowed.ensures ∙ c.before.if2.true)))
 
 returns-2 : tie.Need-returns-2
 returns-2 c =
     let p = c.before.before.args.p in
     let f = sym c.before.fields_fit.ensures in
-    ap wordAnswer (sym (⊎_elim (λ w. write-not-allowed p (sym w.1.ensures ∙ w.2.left)) (λ w. write-large p (f ∙ w.left)) c.if1.branch))
+    ap word_answer (sym (⊎_elim (λ w. write-not-allowed p (sym w.1.ensures ∙ w.2.left)) (λ w. write-large p (f ∙ w.left)) c.if1.branch))
 
 pub write-word-spec : {M : Type 1} → statement M
 write-word-spec =

@@ -1,7 +1,7 @@
 -- Each call writes one piece of the list, in the definition's order. Assumes nothing.
 use borrow.Author.Rules.{rules}
 use Rattle.packed.proofs.IntegerLists.{word-others, word-lr, word-list}
-use Rattle.packed_codes.specs.PackedCodes.{firstList}
+use Rattle.packed_codes.specs.PackedCodes.{first_list}
 use Rattle.packed_codes.proofs.Pieces.{read-fit}
 use Rattle.packed_codes.proofs.Buffer.{joined}
 use Rattle.packed_codes.proofs.first_list.Statement.{statement}
@@ -14,7 +14,7 @@ pop-requires c κs =
     word-list b.before.before.args.word b.pf.result r.registers.result r.registers.ensures
 
 returns : tie.Need-returns
-unfolding firstList
+unfolding first_list
 returns c =
     let q = c.before.before.before.before in
     let n = q.before.before in

@@ -6,7 +6,7 @@ use Rattle.words.specs.Bits.{bits}
 use borrow.Author.Rules.{rules}
 use borrow.Author.Tests.{eqb-true, eqb-false}
 use Rattle.packed_codes.specs.PackedCodes.{low}
-use Rattle.packed_codes.specs.as_coded.Out.{puts}
+use Rattle.packed_codes.specs.AsCoded.Out.{puts}
 use Rattle.packed_codes.proofs.Buffer.{nothing}
 use Rattle.packed_codes.proofs.Pieces.{list-none, list-some, high-none, high-some}
 use Rattle.packed_codes.proofs.pop.Statement.{statement}

@@ -2,7 +2,7 @@
 use mathlib.Core.Path.{refl}
 use borrow.Author.Tests.{lt-ltb, le-ltb}
 use borrow.Author.Rules.{rules}
-use Rattle.packed_codes.specs.as_coded.Out.{put_of, puts}
+use Rattle.packed_codes.specs.AsCoded.Out.{put_of, puts}
 use Rattle.packed_codes.proofs.put.Statement.{statement}
 use Rattle.packed_codes.proofs.put.Tie as tie
 

@@ -3,14 +3,14 @@ use mathlib.Core.Path.{refl}
 use borrow.Author.Tests.{eq-eqb, ne_eqb}
 use borrow.Author.Rules.{rules}
 use Rattle.packed.proofs.IntegerLists.{word-others, word_made}
-use Rattle.packed_codes.specs.PackedCodes.{secondList}
+use Rattle.packed_codes.specs.PackedCodes.{second_list}
 use Rattle.packed_codes.proofs.Pieces.{read-fit}
 use Rattle.packed_codes.proofs.Buffer.{nothing, joined}
 use Rattle.packed_codes.proofs.second_list.Statement.{statement}
 use Rattle.packed_codes.proofs.second_list.Tie as tie
 
 returns : tie.Need-returns
-unfolding secondList
+unfolding second_list
 returns c = nothing _ (rw (eq-eqb _ _ (rw c.before.before.fields.ensures at c.if1.true)) refl)
 
 leave-requires : tie.Need-leave-requires
@@ -21,7 +21,7 @@ leave-requires c κs =
     (read-fit _ _ f.fields.ensures, rw f.fields.ensures made)
 
 returns-2 : tie.Need-returns-2
-unfolding secondList
+unfolding second_list
 returns-2 c =
     let v = c.before.before in
     let a = v.before.before in

@@ -5,7 +5,7 @@ use native.Mathlib.Omega.{arith}
 use Rattle.codes.specs.Table.{range}
 use Rattle.codes.proofs.Registers.{from-r4}
 use Rattle.packed_codes.specs.PackedCodes.{up_to}
-use Rattle.packed_codes.specs.as_coded.Out.{top_of}
+use Rattle.packed_codes.specs.AsCoded.Out.{top_of}
 use Rattle.packed_codes.proofs.Pieces.{top-here, top-later, top-none}
 use Rattle.packed_codes.proofs.top_from.Statement.{statement}
 use Rattle.packed_codes.proofs.top_from.Tie as tie

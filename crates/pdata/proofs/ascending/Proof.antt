@@ -7,14 +7,14 @@ use lib.ListN.{length}
 use native.Mathlib.Omega.{arith}
 use borrow.Author.Rules.{rules}
 use Rattle.lent.specs.Little.{word32}
-use Rattle.unwinding.specs.View.{ascending as ascendingOf}
+use Rattle.unwinding.specs.View.{ascending as ascending_of}
 use Rattle.pdata.specs.Pdata.{starts}
-use Rattle.pdata.proofs.Finding.{ascending-stops, ascending-goes-on, ascendingFrom, ascending-all, ascending-last, start_at, start-up-to, start-above}
+use Rattle.pdata.proofs.Finding.{ascending-stops, ascending-goes-on, ascending_from, ascending-all, ascending-last, start_at, start-up-to, start-above}
 use Rattle.pdata.proofs.ascending.Statement.{statement}
 use Rattle.pdata.proofs.ascending.Tie as tie
 
 abbrev invariant-loop : tie.invariant-loop
-invariant-loop pdata n i₀ last₀ i last = (n ≡ length pdata / 8) × (i ≤ n) × (ascendingOf (starts pdata) ≡ ascendingFrom pdata i n) × (last ≡ word32 pdata (8 * i))
+invariant-loop pdata n i₀ last₀ i last = (n ≡ length pdata / 8) × (i ≤ n) × (ascending_of (starts pdata) ≡ ascending_from pdata i n) × (last ≡ word32 pdata (8 * i))
 
 abbrev decreases-loop : tie.decreases-loop
 decreases-loop pdata n i₀ last₀ i last = n - i
@@ -23,7 +23,7 @@ loop-holds : tie.Need-loop-init invariant-loop decreases-loop
 loop-holds c =
     let s = c.before.before.before.args.pdata.now in
     let r = c.before.records in
-    (r.ensures, omega arith, sym (ascending-all s) ∙ ap (ascendingFrom s 0) (sym r.ensures), c.word32.ensures)
+    (r.ensures, omega arith, sym (ascending-all s) ∙ ap (ascending_from s 0) (sym r.ensures), c.word32.ensures)
 
 returns : tie.Need-returns invariant-loop decreases-loop
 returns c =

@@ -6,7 +6,7 @@ use borrow.Author.Tests.{not-true, not-false}
 use borrow.Author.Rules.{rules}
 use Rattle.words.specs.Bits.{even}
 use Rattle.words.specs.Answer.{ok}
-use Rattle.pdata.specs.Pdata.{entries, lastUpTo, found}
+use Rattle.pdata.specs.Pdata.{entries, last_up_to, found}
 use Rattle.pdata.proofs.Finding.{find-unfit, find-below, find-unsorted, find-sorted}
 use Rattle.pdata.proofs.find_in.Statement.{statement}
 use Rattle.pdata.proofs.find_in.Tie as tie
@@ -37,7 +37,7 @@ returns-4 c e =
     let above : a.image ≤ even a.pc = omega (arith, c.before.before.before.before.even.ensures, c.before.before.before.if2.false) in
     let up = sym (ap (λ k. k.sorted) e) ∙ not-false a.checked.sorted c.before.if3.false in
     c.search.ensures up
-    ∙ ap (λ n. found (ok (lastUpTo (entries a.pdata.now) (n - a.image)))) c.before.before.before.before.even.ensures
+    ∙ ap (λ n. found (ok (last_up_to (entries a.pdata.now) (n - a.image)))) c.before.before.before.before.even.ensures
     ∙ ap found (sym (find-sorted a.image a.pdata.now a.pc (sym (ap (λ k. k.fit) e) ∙ not-false a.checked.fit c.before.before.before.before.before.if1.false) above up))
 
 pub find-in-spec : {M : Type 1} → statement M

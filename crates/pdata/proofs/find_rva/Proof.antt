@@ -1,4 +1,4 @@
--- Each return is one case of `findRva` by its tests. Assumes nothing.
+-- Each return is one case of `find_rva` by its tests. Assumes nothing.
 use mathlib.Core.Path.{sym, ap, ◌∙◌}
 use borrow.Author.Tests.{not-true, not-false}
 use Rattle.pdata.specs.Pdata.{found}

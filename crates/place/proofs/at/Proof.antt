@@ -2,7 +2,7 @@
 use mathlib.Core.Path.{ap, ◌∙◌}
 use native.Mathlib.Omega.{arith}
 use Rattle.record.proofs.Shapes.{read-inside, read-listed, read-few}
-use Rattle.place.specs.as_coded.Placed.{placedIn}
+use Rattle.place.specs.AsCoded.Placed.{placed_in}
 use Rattle.place.proofs.Answered.{picked-codes, placed-refused, placed-given}
 use borrow.Author.Rules.{rules}
 use Rattle.place.proofs.at.Statement.{statement}
@@ -39,7 +39,7 @@ returns c =
     let a = y.before.before.args in
     let x = a.xdata.now in
     placed-refused x y.read.result a.o c.refused.result _ c.before.before.verdict.given.1 c.refused.ensures
-    ∙ ap (λ f. placedIn x f a.o) y.read.ensures
+    ∙ ap (λ f. placed_in x f a.o) y.read.ensures
 
 returns-2 : tie.Need-returns-2
 returns-2 c =
@@ -49,7 +49,7 @@ returns-2 c =
     let f = y.read.result in
     let p = c.before.pick in
     placed-given x f a.o c.in-plan.result c.before.before.before.before.before.enum_told.given.1 p.result.now (p.ensures ∙ picked-codes x f) c.in-plan.ensures
-    ∙ ap (λ f. placedIn x f a.o) y.read.ensures
+    ∙ ap (λ f. placed_in x f a.o) y.read.ensures
 
 pub at-spec : {M : Type 1} → statement M
 at-spec =

@@ -3,7 +3,7 @@
 use mathlib.Core.Path.{ap, ◌∙◌}
 use lib.ListN.{length}
 use Rattle.record.proofs.Shapes.{scopes-inside}
-use Rattle.place.specs.as_coded.Look.{inScope}
+use Rattle.place.specs.AsCoded.Look.{in_scope}
 use Rattle.place.proofs.Looking.{here-scope, here-body}
 use borrow.Author.Rules.{rules}
 use Rattle.place.proofs.in_here.Statement.{statement}
@@ -23,8 +23,8 @@ returns c =
     let a = y.before.before.before.before.before.args in
     let s = a.codes.now in
     c.in_scope.ensures
-    ∙ ap (λ n. inScope s n a.o y.scope.result) c.before.Span-of.ensures.0
-    ∙ ap (inScope s a.plan.span a.o) y.scope.ensures
+    ∙ ap (λ n. in_scope s n a.o y.scope.result) c.before.Span-of.ensures.0
+    ∙ ap (in_scope s a.plan.span a.o) y.scope.ensures
     ∙ here-scope s a.xdata.now a.plan.scopes a.plan.span a.o a.plan.count a.at y.before.if1.true
 
 returns-2 : tie.Need-returns-2

@@ -1,8 +1,8 @@
 -- The size of the scope's codes makes its epilogue as the definition does.
 -- Assumes nothing.
 use mathlib.Core.Path.{sym, ap, ◌∙◌}
-use Rattle.codes.specs.Code.{codesAt}
-use Rattle.place.specs.as_coded.Look.{spanBy, noSpot, inEpilogue}
+use Rattle.codes.specs.Code.{codes_at}
+use Rattle.place.specs.AsCoded.Look.{span_by, no_spot, in_epilogue}
 use Rattle.place.proofs.Looking.{by_bytes, by-unread}
 use borrow.Author.Rules.{rules}
 use Rattle.place.proofs.in_scope.Statement.{statement}
@@ -22,8 +22,8 @@ returns c =
     let y = c.before.before.before.before.before in
     let a = y.before.before.args in
     let s = a.codes.now in
-    c.in-epilogue.ensures ∙ ap (inEpilogue s a.o) c.before.epilogue-span.ensures.0
-    ∙ sym (by_bytes noSpot (λ n. inEpilogue s a.o (spanBy a.span a.e n)) (codesAt s a.e.index) _ (sym y.measure.ensures.0 ∙ c.before.before.before.size.given.1))
+    c.in-epilogue.ensures ∙ ap (in_epilogue s a.o) c.before.epilogue-span.ensures.0
+    ∙ sym (by_bytes no_spot (λ n. in_epilogue s a.o (span_by a.span a.e n)) (codes_at s a.e.index) _ (sym y.measure.ensures.0 ∙ c.before.before.before.size.given.1))
 
 returns-2 : tie.Need-returns-2
 returns-2 c =
@@ -31,7 +31,7 @@ returns-2 c =
     let a = y.before.before.args in
     let s = a.codes.now in
     c.no-spot.ensures
-    ∙ sym (by-unread noSpot (λ n. inEpilogue s a.o (spanBy a.span a.e n)) (codesAt s a.e.index) _ (sym y.measure.ensures.0 ∙ c.before.before.r.given.1))
+    ∙ sym (by-unread no_spot (λ n. in_epilogue s a.o (span_by a.span a.e n)) (codes_at s a.e.index) _ (sym y.measure.ensures.0 ∙ c.before.before.r.given.1))
 
 pub in-scope-spec : {M : Type 1} → statement M
 in-scope-spec =

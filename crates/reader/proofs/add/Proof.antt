@@ -2,7 +2,7 @@
 -- Assumes nothing.
 use mathlib.Core.Path.{refl, sym, ap, ap₂}
 use borrow.Author.Rules.{rules}
-use Rattle.reader.specs.as_coded.Reading.{turn}
+use Rattle.reader.specs.AsCoded.Reading.{turn}
 use Rattle.reader.proofs.add.Statement.{statement}
 use Rattle.reader.proofs.add.Tie as tie
 

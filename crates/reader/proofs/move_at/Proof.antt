@@ -2,7 +2,7 @@
 -- Assumes nothing.
 use mathlib.Core.Path.{sym, ap, ◌∙◌}
 use borrow.Author.Rules.{rules}
-use Rattle.reader.specs.as_coded.Reading.{past, moved}
+use Rattle.reader.specs.AsCoded.Reading.{past, moved}
 use Rattle.reader.proofs.move_at.Statement.{statement}
 use Rattle.reader.proofs.move_at.Tie as tie
 

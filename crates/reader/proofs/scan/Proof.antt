@@ -59,10 +59,10 @@ use Rattle.reader.specs.declared.Step.{Step}
 use Rattle.reader.specs.declared.Scanned.{Scanned}
 use Rattle.reader.specs.declared.Scanned.TheVariants.{Ends}
 use Rattle.reader.specs.declared.Turn.{Turn}
-use Rattle.codes.specs.Code.{takeAt, scan}
-use Rattle.codes.specs.as_coded.Rows.{rowNumbers}
-use Rattle.codes.specs.as_coded.Sizing.{sized}
-use Rattle.reader.specs.as_coded.Reading.{past, scanned, turn, so_far, more}
+use Rattle.codes.specs.Code.{take_at, scan}
+use Rattle.codes.specs.AsCoded.Rows.{row_numbers}
+use Rattle.codes.specs.AsCoded.Sizing.{sized}
+use Rattle.reader.specs.AsCoded.Reading.{past, scanned, turn, so_far, more}
 use Rattle.codes.specs.contracts.Sized as C
 use Rattle.codes.proofs.Sized.TheLaws as C'
 use Rattle.reader.specs.contracts.Step as P
@@ -137,15 +137,15 @@ module _ {M : Type 1} {𝓤 : Ura M} (𝓛 : Logic 𝓤) (mem : Memory → SProp
   abbrev AddC : Contract 𝓤
   AddC = triple_of 𝓛 add.signature (add.spec 𝓛 mem run)
 
-abbrev codesTy : Ty
-codesTy = slice_ty (ty_ref (named 1) imm (ty_int w8))
+abbrev codes_ty : Ty
+codes_ty = slice_ty (ty_ref (named 1) imm (ty_int w8))
 
 -- the lent table's type, and its `&`
 abbrev R : RattleType
 R = Array u8 256
 
-abbrev tableTy : Ty
-tableTy = ty_ref (named 0) imm (ty_array (ty_int w8) 256)
+abbrev table_ty : Ty
+table_ty = ty_ref (named 0) imm (ty_array (ty_int w8) 256)
 
 module _ {M : Type 1} {𝓤 : Ura M} (𝓛 : Logic 𝓤) (mem : Memory → SProp 𝓤) (run : Routine → Fun 𝓤) (κ₂ κ : Lft) (q₂ q : Share) (tr sr : Bor (List ℕ)) (i : CodeBytes) where
   -- 'a as a signature has it, and as a local has it
@@ -182,21 +182,21 @@ module _ {M : Type 1} {𝓤 : Ura M} (𝓛 : Logic 𝓤) (mem : Memory → SProp
   abbrev Post : Val → SProp 𝓤
   Post = (walk_of 𝓛 scan'.ended stayed (scan'.clauses 𝓛 mem run)).post ((κs, qs, tt, a, mach), tt)
 
-  abbrev codesOwn : Fml
-  codesOwn = (ShrSlice (named 1) κ u8).own_val sr (shr_slice_vals sr)
+  abbrev codes_own : Fml
+  codes_own = (ShrSlice (named 1) κ u8).own_val sr (shr_slice_vals sr)
 
-  abbrev tableOwn : Fml
-  tableOwn = (ShrRef (named 0) κ₂ R).own_val tr (tv ∷ [])
+  abbrev table_own : Fml
+  table_own = (ShrRef (named 0) κ₂ R).own_val tr (tv ∷ [])
 
   -- what is kept for the exit, and the tokens as `Reader::take` has them
   abbrev Kept : Item 𝓤
-  Kept = ‵ codesOwn ⊛ ‵ tableOwn
+  Kept = ‵ codes_own ⊛ ‵ table_own
 
   abbrev Tokens : Item 𝓤
   Tokens = ‵ (flft κ q) ⊛ (‵ (flft κ₂ q₂) ⊛ ‵ ftrue)
 
-  abbrev readerOwn : Reader → Fml
-  readerOwn h = B.own h (T'.lowered h ∷ [])
+  abbrev reader_own : Reader → Fml
+  reader_own h = B.own h (T'.lowered h ∷ [])
 
   abbrev Loop : Type 0
   Loop = Here sr.now i
@@ -229,11 +229,11 @@ module _ {M : Type 1} {𝓤 : Ura M} (𝓛 : Logic 𝓤) (mem : Memory → SProp
   abbrev to_take : CodeBytes → (TakeC 𝓛 mem run).Ghost
   to_take n = (((κ, (κ₂, tt)), (q, (q₂, tt)), tt, taken-from n, taken_at n), tt)
 
-  takes : tr.now ≡ rowNumbers → (n : CodeBytes) → ent 𝓤 (on_entry 𝓛 take.signature (κ, (κ₂, tt)) (q, (q₂, tt)) (taken-from n) (taken_at n)) ((TakeC 𝓛 mem run).pre (to_take n))
+  takes : tr.now ≡ row_numbers → (n : CodeBytes) → ent 𝓤 (on_entry 𝓛 take.signature (κ, (κ₂, tt)) (q, (q₂, tt)) (taken-from n) (taken_at n)) ((TakeC 𝓛 mem run).pre (to_take n))
   takes is-table n = qed 𝓛 (Tokens ∷ ‵ (owns (B ∷ ShrRef (named 1) κ₂ R ∷ []) (taken-from n) (taken_at n)) ∷ []) ∵ says ! is-table $ frame ! $ done !
 
   abbrev there : CodeBytes → Sized
-  there n = sized (takeAt sr.now n)
+  there n = sized (take_at sr.now n)
 
   abbrev Took : CodeBytes → Step → Type 0
   Took n t = (t.taken ≡ there n) × (t.rest ≡ hd (past (there n) n))
@@ -251,7 +251,7 @@ module _ {M : Type 1} {𝓤 : Ura M} (𝓛 : Logic 𝓤) (mem : Memory → SProp
   added x t u = ex_e 𝓤 _ (λ ws. snd∗ 𝓤 (sem 𝓛 (lasts add.ended tt (x, (t, tt)) ws)) (fact 𝓤 (u ≡ turn t x)))
 
   module _ (𝓣 : Tables 𝓤 H) (fm : FmC 𝓤 H 𝓛.laws 𝓣.C) (known-new : Triple 𝓤 (𝓣.C #reader·Reader·new) (NewC 𝓛 mem run)) (known-take : Triple 𝓤 (𝓣.C #reader·Reader·take) (TakeC 𝓛 mem run))
-      (known-add : Triple 𝓤 (𝓣.C #reader·add) (AddC 𝓛 mem run)) (is-table : tr.now ≡ rowNumbers) (gt : Is (ShrRef (named 0) κ₂ R) tr (tv ∷ [])) (gs : Is (ShrSlice (named 1) κ u8) sr (shr_slice_vals sr)) (g₀ : Is Z.the_row i (zv i ∷ [])) where
+      (known-add : Triple 𝓤 (𝓣.C #reader·add) (AddC 𝓛 mem run)) (is-table : tr.now ≡ row_numbers) (gt : Is (ShrRef (named 0) κ₂ R) tr (tv ∷ [])) (gs : Is (ShrSlice (named 1) κ u8) sr (shr_slice_vals sr)) (g₀ : Is Z.the_row i (zv i ∷ [])) where
     short : length sr.now < 2 ^ 63
     short = let z : length sr.now * 1 < 2 ^ 63 = gs.0.1.1 in omega arith
 
@@ -267,14 +267,14 @@ module _ {M : Type 1} {𝓤 : Ura M} (𝓛 : Logic 𝓤) (mem : Memory → SProp
 
     module _ (l₀ l₁ l₂ l₃ l₄ l₅ l₆ l₇ l₈ l₉ l₁₀ : ℕ) where
       abbrev E : Env 𝓤 H
-      E = (X'.mir, l₀) ∷ (tableTy, l₁) ∷ (codesTy, l₂) ∷ (Z'.mir, l₃) ∷ (T'.mir erased, l₄) ∷ (X'.mir, l₅) ∷ (P'.mir erased, l₆) ∷ (Q'.mir, l₇) ∷ (T'.mir erased, l₈) ∷ (C'.mir, l₉) ∷ (ty_bool, l₁₀) ∷ []
+      E = (X'.mir, l₀) ∷ (table_ty, l₁) ∷ (codes_ty, l₂) ∷ (Z'.mir, l₃) ∷ (T'.mir erased, l₄) ∷ (X'.mir, l₅) ∷ (P'.mir erased, l₆) ∷ (Q'.mir, l₇) ∷ (T'.mir erased, l₈) ∷ (C'.mir, l₉) ∷ (ty_bool, l₁₀) ∷ []
 
       abbrev I : Loop → List (Item 𝓤)
-      I h = ‵ (readerOwn (hd h.at)) ∷ Kept ∷ Tokens
+      I h = ‵ (reader_own (hd h.at)) ∷ Kept ∷ Tokens
           ∷ ‵ (froom ty_bool l₁₀ 0) ∷ ‵ (fdies ty_bool l₁₀) ∷ ‵ (froom C'.mir l₉ 0) ∷ ‵ (fdies C'.mir l₉) ∷ ‵ (froom (T'.mir erased) l₈ 0) ∷ ‵ (fdies (T'.mir erased) l₈)
           ∷ ‵ (froom Q'.mir l₇ 0) ∷ ‵ (fdies Q'.mir l₇) ∷ ‵ (froom (P'.mir erased) l₆ 0) ∷ ‵ (fdies (P'.mir erased) l₆)
           ∷ ‵ (fat full_share X'.mir l₅ 0 (xv (Ends h.sum 0))) ∷ ‵ (fdies X'.mir l₅) ∷ ‵ (fat full_share (T'.mir erased) l₄ 0 (T'.lowered (hd h.at))) ∷ ‵ (fdies (T'.mir erased) l₄)
-          ∷ ‵ (fat full_share Z'.mir l₃ 0 (zv i)) ∷ ‵ (fdies Z'.mir l₃) ∷ ‵ (fat full_share codesTy l₂ 0 (slice_val sr.ref_ptr (length sr.now))) ∷ ‵ (fdies codesTy l₂) ∷ ‵ (fat full_share tableTy l₁ 0 tv) ∷ ‵ (fdies tableTy l₁) ∷ ‵ (froom X'.mir l₀ 0) ∷ ‵ (fdies X'.mir l₀) ∷ []
+          ∷ ‵ (fat full_share Z'.mir l₃ 0 (zv i)) ∷ ‵ (fdies Z'.mir l₃) ∷ ‵ (fat full_share codes_ty l₂ 0 (slice_val sr.ref_ptr (length sr.now))) ∷ ‵ (fdies codes_ty l₂) ∷ ‵ (fat full_share table_ty l₁ 0 tv) ∷ ‵ (fdies table_ty l₁) ∷ ‵ (froom X'.mir l₀ 0) ∷ ‵ (fdies X'.mir l₀) ∷ []
 
       abbrev ≺ : Loop → Loop → Type 0
       ≺ u v = length sr.now - u.at.0 < length sr.now - v.at.0
@@ -294,16 +294,16 @@ module _ {M : Type 1} {𝓤 : Ura M} (𝓛 : Logic 𝓤) (mem : Memory → SProp
       one-turn h =
           -- [what the reader owns; what is kept; the tokens; _10; …; _9; …; _8; …; _7; …; _6; …; _5; …; _4; …; _3; …; _2; …; _1; …; room for _0; …]
           assigns ! (of_opd ! (load ! (from ! (stop !)) (look ! 15 refl))) (from ! (stop !)) (init ! 7 refl ((LL.lawful (T.the_type β) (T'.the_laws β) 𝓛).typed (hd h.at) _ (is-reader h.at (is_at h.at h.held))).0) $
-          move ! (1 ∷ []) $ split ! $ move ! (1 ∷ []) $ use1 𝓛 (‵ tableOwn ⊛ ‵ tableOwn) ((shr_copy 𝓛 (named 0) κ₂ R).twice tr (tv ∷ [])) $ split ! $ nothing ! $ move ! (1 ∷ 0 ∷ []) $ fjoin ! $ move ! (3 ∷ 0 ∷ []) $ fjoin ! $ move ! (2 ∷ 1 ∷ []) $ join ! $
+          move ! (1 ∷ []) $ split ! $ move ! (1 ∷ []) $ use1 𝓛 (‵ table_own ⊛ ‵ table_own) ((shr_copy 𝓛 (named 0) κ₂ R).twice tr (tv ∷ [])) $ split ! $ nothing ! $ move ! (1 ∷ 0 ∷ []) $ fjoin ! $ move ! (3 ∷ 0 ∷ []) $ fjoin ! $ move ! (2 ∷ 1 ∷ []) $ join ! $
           -- [what is kept; what is passed; the tokens; …]
           move ! (2 ∷ 1 ∷ []) $ use2 𝓛 (raw ((TakeC 𝓛 mem run).pre (to_take h.at))) (takes is-table h.at) $
           calls_at ! fm (TakeC 𝓛 mem run) known-take (to_take h.at) (and_then ! (load ! (from ! (stop !)) (look ! 6 refl)) (and_then ! (load ! (from ! (stop !)) (look ! 20 refl)) (no_more !))) (λ w.
           use1 𝓛 (later (some (λ (t : Step). (Tokens ⊛ ‵ ((P.the_row α).own_val t (w ∷ []))) ⊛ raw (ensured 𝓛 take.ended (take.clauses 𝓛 mem run) (κ, (κ₂, tt)) (taken-from h.at) tt t)))) (id⊢ 𝓤 _) $ await ! tt $ pick ! (λ t.
           split ! $ move ! (1 ∷ []) $ use1 𝓛 (raw (fact 𝓤 (Took h.at t))) (took h.at t) $ heard ! (Took h.at t) (λ e. split ! $ move ! (1 ∷ []) $
           -- [the answer; the tokens; what is kept; _10; …]
-          peeks ! (P.the_row α) (Is (P.the_row α)) (shows 𝓛 (P.the_row α)) t (w ∷ []) (λ isP. let pp = LL.owed (P.the_type α) (P'.the_laws α) t _ isP in
-          land ! (from ! (stop !)) (init ! 11 refl ((LL.lawful (P.the_type β) (P'.the_laws β) 𝓛).typed t _ isP).0) $ rewrite ! 11 (λ (v : Val). ‵ (fat full_share (P'.mir erased) l₆ 0 v)) (ap only (LL.tells (P.the_type α) (P'.the_laws α) t (w ∷ []) isP)) refl $
-          rewrite ! 0 (λ (vs : List Val). ‵ ((P.the_row α).own_val t vs)) (LL.tells (P.the_type α) (P'.the_laws α) t (w ∷ []) isP) refl $
+          peeks ! (P.the_row α) (Is (P.the_row α)) (shows 𝓛 (P.the_row α)) t (w ∷ []) (λ is_p. let pp = LL.owed (P.the_type α) (P'.the_laws α) t _ is_p in
+          land ! (from ! (stop !)) (init ! 11 refl ((LL.lawful (P.the_type β) (P'.the_laws β) 𝓛).typed t _ is_p).0) $ rewrite ! 11 (λ (v : Val). ‵ (fat full_share (P'.mir erased) l₆ 0 v)) (ap only (LL.tells (P.the_type α) (P'.the_laws α) t (w ∷ []) is_p)) refl $
+          rewrite ! 0 (λ (vs : List Val). ‵ ((P.the_row α).own_val t vs)) (LL.tells (P.the_type α) (P'.the_laws α) t (w ∷ []) is_p) refl $
           use1 𝓛 (given (LL.vals (P.the_type α) (P'.the_laws α) t ≡ LL.vals (P.the_type α) (P'.the_laws α) t) (‵ (all_own (P.the_type α).parts (P'.the_laws α) (t.taken, (t.rest, tt))))) (own_open 𝓛 (P.the_type α) (P'.the_laws α) (t.taken, (t.rest, tt)) (LL.val (P.the_type α) (P'.the_laws α) t)) $ learn ! (λ _.
           fsplit ! $ drop ! $ fsplit ! $ move ! (1 ∷ []) $ drop ! $ move ! (0 ∷ 2 ∷ []) $
           -- [what the next reader owns; what is kept; the tokens; _10; …]
@@ -314,9 +314,9 @@ module _ {M : Type 1} {𝓤 : Ura M} (𝓛 : Logic 𝓤) (mem : Memory → SProp
           use1 𝓛 (later (some (λ (u : Turn). (‵ ftrue ⊛ ‵ ((Q.the_row).own_val u (w' ∷ []))) ⊛ raw (ensured 𝓛 add.ended (add.clauses 𝓛 mem run) tt (Ends h.sum 0, (t.taken, tt)) tt u)))) (id⊢ 𝓤 _) $ await ! tt $ pick ! (λ u.
           split ! $ move ! (1 ∷ []) $ use1 𝓛 (raw (fact 𝓤 (u ≡ turn t.taken (Ends h.sum 0)))) (added (Ends h.sum 0) t.taken u) $ heard ! (u ≡ turn t.taken (Ends h.sum 0)) (λ e₂. split ! $ move ! (1 ∷ []) $
           -- [the answer; true; what the next reader owns; what is kept; the tokens; _10; …]
-          peeks ! Q.the_row (Is Q.the_row) (shows 𝓛 Q.the_row) u (w' ∷ []) (λ isQ. let qq = LL.owed Q.the_type Q'.the_laws u _ isQ in
+          peeks ! Q.the_row (Is Q.the_row) (shows 𝓛 Q.the_row) u (w' ∷ []) (λ is_q. let qq = LL.owed Q.the_type Q'.the_laws u _ is_q in
           let e₃ : u ≡ turn (there h.at) (Ends h.sum 0) = e₂ ∙ ap (λ (x : Sized). turn x (Ends h.sum 0)) e.0 in
-          land ! (from ! (stop !)) (init ! 11 refl ((LL.lawful Q.the_type Q'.the_laws 𝓛).typed u _ isQ).0) $ rewrite ! 11 (λ (v : Val). ‵ (fat full_share Q'.mir l₇ 0 v)) (ap only (LL.tells Q.the_type Q'.the_laws u (w' ∷ []) isQ)) refl $
+          land ! (from ! (stop !)) (init ! 11 refl ((LL.lawful Q.the_type Q'.the_laws 𝓛).typed u _ is_q).0) $ rewrite ! 11 (λ (v : Val). ‵ (fat full_share Q'.mir l₇ 0 v)) (ap only (LL.tells Q.the_type Q'.the_laws u (w' ∷ []) is_q)) refl $
           drop ! $ drop ! $ assigns ! (of_opd ! (load ! (from ! (fld ! refl (stop !))) (look_in ! 9 (sub ! 1 refl (whole !))))) (from ! (stop !)) (store ! 13 refl ((EL.lawful X.the_type X'.the_laws 𝓛 tt).typed u.found _ qq.1.0).0) $
           assigns ! (un ! (load ! (from ! (fld ! refl (stop !))) (look_in ! 9 (sub ! 0 refl (whole !)))) tt) (from ! (stop !)) (init ! 3 refl (tt, tt)) $
           first ! $ branches ! (load ! (from ! (stop !)) (look ! 3 refl))
@@ -330,7 +330,7 @@ module _ {M : Type 1} {𝓤 : Ura M} (𝓛 : Logic 𝓤) (mem : Memory → SProp
           skips ! $ exec ! 𝓣.C 𝓣.Λ E (rest (rest (rest (rest (rest (rest (rest mir.turn-1))))))) (Turned h) $
           assigns_last ! (of_opd ! (load ! (from ! (fld ! refl (stop !))) (look_in ! 11 (sub ! 1 refl (whole !))))) (from ! (stop !)) (store ! 15 refl ((LL.lawful (T.the_type β) (T'.the_laws β) 𝓛).typed t.rest _ pp.1.0).0) $
           forget ! 3 refl $ forget ! 5 refl $ forget ! 7 refl $ forget ! 9 refl $ forget ! 11 refl $
-          rewrite ! 0 (λ (d : Reader). ‵ (readerOwn d)) e.1 refl $ rewrite ! 15 (λ (d : Reader). ‵ (fat full_share (T'.mir erased) l₄ 0 (T'.lowered d))) e.1 refl $
+          rewrite ! 0 (λ (d : Reader). ‵ (reader_own d)) e.1 refl $ rewrite ! 15 (λ (d : Reader). ‵ (fat full_share (T'.mir erased) l₄ 0 (T'.lowered d))) e.1 refl $
           rewrite ! 13 (λ (x : Scanned). ‵ (fat full_share X'.mir l₅ 0 (xv x))) (ap (λ (y : Turn). y.found) e₃ ∙ adds h.sum (there h.at) go) refl $
           again ! ≺ I h (onto h short go) (nearer h short go)))))))))))
 
@@ -347,17 +347,17 @@ module _ {M : Type 1} {𝓤 : Ura M} (𝓛 : Logic 𝓤) (mem : Memory → SProp
         alloc1 ! (λ l₀. alloc1 ! (λ l₁. alloc1 ! (λ l₂. alloc1 ! (λ l₃. alloc1 ! (λ l₄. alloc1 ! (λ l₅. alloc1 ! (λ l₆. alloc1 ! (λ l₇. alloc1 ! (λ l₈. alloc1 ! (λ l₉. alloc1 ! (λ l₁₀. alloc0 ! $ params1 ! $
         pass1 ! (init ! 18 refl ((shr_Lawful 𝓛 (named 0) κ₂ R).typed tr _ gt).0) $ pass1 ! (init ! 16 refl (tt, (tt, (record { fits = gs.0.1.0 }, tt)))) $ pass1 ! (init ! 14 refl ((LL.lawful Z.the_type Z'.the_laws 𝓛).typed i _ g₀).0) $ pass0 ! $
         -- [_10; …; room for _0; …; the tokens; what the parameters own]: what codes owns is had twice, once for `Reader::new` and once for the exit
-        move ! (23 ∷ []) $ fsplit ! $ move ! (1 ∷ []) $ fsplit ! $ use1 𝓛 (‵ codesOwn ⊛ ‵ codesOwn) ((shr_slice_copy 𝓛 (named 1) κ u8).twice sr (shr_slice_vals sr)) $ split ! $ move ! (0 ∷ 2 ∷ []) $ fjoin ! $ move ! (1 ∷ 2 ∷ []) $ join ! $
+        move ! (23 ∷ []) $ fsplit ! $ move ! (1 ∷ []) $ fsplit ! $ use1 𝓛 (‵ codes_own ⊛ ‵ codes_own) ((shr_slice_copy 𝓛 (named 1) κ u8).twice sr (shr_slice_vals sr)) $ split ! $ move ! (0 ∷ 2 ∷ []) $ fjoin ! $ move ! (1 ∷ 2 ∷ []) $ join ! $
         -- [what is kept; what is passed; _10; …; the tokens]
         move ! (24 ∷ []) $ split ! $ move ! (1 ∷ 3 ∷ []) $ use2 𝓛 (raw ((NewC 𝓛 mem run).pre to-new)) news $
         calls_at ! fm (NewC 𝓛 mem run) known-new to-new (and_then ! (load ! (from ! (stop !)) (look ! 19 refl)) (and_then ! (load ! (from ! (stop !)) (look ! 17 refl)) (no_more !))) (λ w.
         use1 𝓛 (later (some (λ (r : Reader). ((‵ (flft κ q) ⊛ ‵ ftrue) ⊛ ‵ (B.own r (w ∷ []))) ⊛ raw (ensured 𝓛 new.ended (new.clauses 𝓛 mem run) (κ, tt) a.1 tt r)))) (id⊢ 𝓤 _) $ await ! tt $ pick ! (λ r.
         split ! $ move ! (1 ∷ []) $ use1 𝓛 (raw (fact 𝓤 (r ≡ hd i))) (made r) $ heard ! (r ≡ hd i) (λ e. split ! $ move ! (1 ∷ []) $
         -- [the answer; the token of codes; the table's token; what is kept; _10; …]
-        peeks ! B (Is B) (shows 𝓛 B) r (w ∷ []) (λ isR.
-        land ! (from ! (stop !)) (init ! 16 refl ((LL.lawful (T.the_type β) (T'.the_laws β) 𝓛).typed r _ isR).0) $ rewrite ! 16 (λ (v : Val). ‵ (fat full_share (T'.mir erased) l₄ 0 v)) (ap only (LL.tells (T.the_type α) (T'.the_laws α) r (w ∷ []) isR)) refl $
-        rewrite ! 0 (λ (vs : List Val). ‵ (B.own r vs)) (LL.tells (T.the_type α) (T'.the_laws α) r (w ∷ []) isR) refl $
-        rewrite ! 0 (λ (d : Reader). ‵ (readerOwn d)) e refl $ rewrite ! 16 (λ (d : Reader). ‵ (fat full_share (T'.mir erased) l₄ 0 (T'.lowered d))) e refl $
+        peeks ! B (Is B) (shows 𝓛 B) r (w ∷ []) (λ is_r.
+        land ! (from ! (stop !)) (init ! 16 refl ((LL.lawful (T.the_type β) (T'.the_laws β) 𝓛).typed r _ is_r).0) $ rewrite ! 16 (λ (v : Val). ‵ (fat full_share (T'.mir erased) l₄ 0 v)) (ap only (LL.tells (T.the_type α) (T'.the_laws α) r (w ∷ []) is_r)) refl $
+        rewrite ! 0 (λ (vs : List Val). ‵ (B.own r vs)) (LL.tells (T.the_type α) (T'.the_laws α) r (w ∷ []) is_r) refl $
+        rewrite ! 0 (λ (d : Reader). ‵ (reader_own d)) e refl $ rewrite ! 16 (λ (d : Reader). ‵ (fat full_share (T'.mir erased) l₄ 0 (T'.lowered d))) e refl $
         assigns ! (agg ! (and_then ! (lit ! tt) (and_then ! (lit ! tt) (and_then ! (lit ! tt) (no_more !))))) (from ! (stop !)) (init ! 14 refl ((EL.lawful X.the_type X'.the_laws 𝓛 tt).typed (Ends 0 0) _ (is_sum 0 (lit< tt))).0) $
         move ! (1 ∷ []) $ split ! $ move ! (3 ∷ 1 ∷ []) $ join ! $ move ! (1 ∷ 0 ∷ []) $ join ! $ move ! (1 ∷ 2 ∷ []) $ looped l₀ l₁ l₂ l₃ l₄ l₅ l₆ l₇ l₈ l₉ l₁₀)))))))))))))))
 

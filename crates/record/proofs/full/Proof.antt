@@ -2,8 +2,8 @@
 use mathlib.Core.Path.{sym, ap, ◌∙◌}
 use borrow.Author.Rules.{rules}
 use Rattle.lent.specs.Lent.{lent}
-use Rattle.record.specs.as_coded.Plan.{fullAnswer}
-use Rattle.xdata.specs.Xdata.{headAt}
+use Rattle.record.specs.AsCoded.Plan.{full_answer}
+use Rattle.xdata.specs.Xdata.{head_at}
 use Rattle.record.proofs.Shapes.{plan-given, plan-refused, head-lent}
 use Rattle.xdata.proofs.Heads.{read-given, read-refused}
 use Rattle.record.proofs.full.Statement.{statement}
@@ -12,19 +12,19 @@ use Rattle.record.proofs.full.Tie as tie
 after-head-requires : tie.Need-after-head-requires
 after-head-requires c κs =
     let a = c.before.before.before.before.args in
-    head-lent (lent a.rva a.xdata.now) a.at c.before.before.head_at.result.head (read-given (headAt (lent a.rva a.xdata.now) a.at) c.before.before.head_at.result c.before.before.head_at.ensures c.enum_told.given.1)
+    head-lent (lent a.rva a.xdata.now) a.at c.before.before.head_at.result.head (read-given (head_at (lent a.rva a.xdata.now) a.at) c.before.before.head_at.result c.before.before.head_at.ensures c.enum_told.given.1)
 
 returns : tie.Need-returns
 returns c =
     let a = c.before.before.before.before.before.args in
     c.after-head.ensures
-    ∙ ap fullAnswer (sym (plan-given (lent a.rva a.xdata.now) a.at c.before.before.before.head_at.result.head (read-given (headAt (lent a.rva a.xdata.now) a.at) c.before.before.before.head_at.result c.before.before.before.head_at.ensures c.before.enum_told.given.1)))
+    ∙ ap full_answer (sym (plan-given (lent a.rva a.xdata.now) a.at c.before.before.before.head_at.result.head (read-given (head_at (lent a.rva a.xdata.now) a.at) c.before.before.before.head_at.result c.before.before.before.head_at.ensures c.before.enum_told.given.1)))
 
 returns-2 : tie.Need-returns-2
 returns-2 c =
     let a = c.before.before.before.before.before.before.args in
     c.no-full.ensures
-    ∙ ap fullAnswer (sym (plan-refused (lent a.rva a.xdata.now) a.at _ (read-refused (headAt (lent a.rva a.xdata.now) a.at) c.before.before.before.before.head_at.result _ c.before.before.before.before.head_at.ensures c.before.before.verdict.given.1)))
+    ∙ ap full_answer (sym (plan-refused (lent a.rva a.xdata.now) a.at _ (read-refused (head_at (lent a.rva a.xdata.now) a.at) c.before.before.before.before.head_at.result _ c.before.before.before.before.head_at.ensures c.before.before.verdict.given.1)))
 
 pub full-spec : {M : Type 1} → statement M
 full-spec =

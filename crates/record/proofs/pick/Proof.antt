@@ -3,7 +3,7 @@
 use Prim.Native.Nat.{◌-◌}
 use mathlib.Core.Path.{ap, sym}
 use borrow.Author.Rules.{rules}
-use Rattle.record.specs.as_coded.Plan.{picked}
+use Rattle.record.specs.AsCoded.Plan.{picked}
 use Rattle.record.proofs.pick.Statement.{statement}
 use Rattle.record.proofs.pick.Tie as tie
 

@@ -2,8 +2,8 @@
 use mathlib.Core.Path.{sym, ap, ◌∙◌}
 use native.Mathlib.Omega.{arith}
 use borrow.Author.Rules.{rules}
-use Rattle.record.specs.as_coded.Plan.{scopeIn}
-use Rattle.xdata.specs.Scopes.{scopeOf}
+use Rattle.record.specs.AsCoded.Plan.{scope_in}
+use Rattle.xdata.specs.Scopes.{scope_of}
 use Rattle.record.proofs.scope.Statement.{statement}
 use Rattle.record.proofs.scope.Tie as tie
 
@@ -19,14 +19,14 @@ word32-in-requires c κs = let h = rw c.before.scopes2.given.1 at c.before.befor
 returns : tie.Need-returns
 returns c =
     let a = c.before.before.before.before.args in
-    ap (λ s. scopeIn s a.xdata.now a.k) (sym c.before.scopes.given.1)
+    ap (λ s. scope_in s a.xdata.now a.k) (sym c.before.scopes.given.1)
 
 returns-2 : tie.Need-returns-2
 returns-2 c =
     let a = c.before.before.before.before.before.before.args in
     c.scope_of.ensures
-    ∙ ap scopeOf c.before.word32-in.ensures
-    ∙ ap (λ s. scopeIn s a.xdata.now a.k) (sym c.before.before.before.scopes2.given.1)
+    ∙ ap scope_of c.before.word32-in.ensures
+    ∙ ap (λ s. scope_in s a.xdata.now a.k) (sym c.before.before.before.scopes2.given.1)
 
 pub scope-spec : {M : Type 1} → statement M
 scope-spec =

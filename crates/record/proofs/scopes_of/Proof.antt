@@ -2,7 +2,7 @@
 use Prim.Native.Nat.{◌+◌}
 use mathlib.Core.Path.{sym, ◌∙◌}
 use borrow.Author.Rules.{rules}
-use Rattle.words.specs.Units.{codeBytes}
+use Rattle.words.specs.Units.{code_bytes}
 use Rattle.record.specs.declared.Scopes.TheVariants.{Ending, Listed}
 use Rattle.words.proofs.Tests.{if-true, if-false}
 use Rattle.record.proofs.scopes_of.Statement.{statement}
@@ -11,12 +11,12 @@ use Rattle.record.proofs.scopes_of.Tie as tie
 returns : tie.Need-returns
 returns c =
     let a = c.before.before.before.args in
-    if-true (Ending (codeBytes a.h.count)) (Listed (a.offset + a.h.bytes)) (sym c.before.before.has_last.ensures ∙ c.before.if1.true)
+    if-true (Ending (code_bytes a.h.count)) (Listed (a.offset + a.h.bytes)) (sym c.before.before.has_last.ensures ∙ c.before.if1.true)
 
 returns-2 : tie.Need-returns-2
 returns-2 c =
     let a = c.before.before.before.args in
-    if-false (Ending (codeBytes a.h.count)) (Listed (a.offset + a.h.bytes)) (sym c.before.before.has_last.ensures ∙ c.before.if1.false)
+    if-false (Ending (code_bytes a.h.count)) (Listed (a.offset + a.h.bytes)) (sym c.before.before.has_last.ensures ∙ c.before.if1.false)
 
 pub scopes-of-spec : {M : Type 1} → statement M
 scopes-of-spec = tie.close (tie.spec (λ c κs. search rules) (λ c. search rules) returns (λ c. search rules) (λ c. search rules) returns-2)

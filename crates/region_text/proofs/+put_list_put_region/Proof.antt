@@ -9,7 +9,7 @@ use borrow.Author.Rules.{rules}
 use borrow.Fn.Kinds.{In}
 use borrow.Fn.PlainCycle.{Measures, is, falls, and}
 use Rattle.text.proofs.Overlaid.{laid-length}
-use Rattle.region_text.specs.as_coded.Part.{inList, regionOf}
+use Rattle.region_text.specs.AsCoded.Part.{in_list, region_of}
 use Rattle.region_text.proofs.Parts.{put-end, put_other, put-more, put-inner}
 use Rattle.region_text.proofs.put_list.Reads as put-list
 use Rattle.region_text.proofs.put_list.Kinds as put-list-kinds
@@ -53,8 +53,8 @@ region-told t = (read-reads.Asked, read-reads.Learnt, put-line-reads.Asked, put-
 tested :
     (t : ℕ) (c : put-list-lts.After-in-list (list-told t) (put-list-at t) put-list.Post)
     → (let a = c.before.before.before.before.before.before.before.args in
-    c.in_List.result ≡ inList a.top a.low a.high (regionOf a.xdata.now a.first a.order.now a.k))
-tested t c = let a = c.before.before.before.before.before.before.before.args in c.in_List.ensures ∙ ap (inList a.top a.low a.high) c.before.read.ensures
+    c.in_List.result ≡ in_list a.top a.low a.high (region_of a.xdata.now a.first a.order.now a.k))
+tested t c = let a = c.before.before.before.before.before.before.before.args in c.in_List.ensures ∙ ap (in_list a.top a.low a.high) c.before.read.ensures
 
 put-list-put-region-requires : (t : ℕ) → put-list-lts.Need-put-region-requires (list-told t) (put-list-at t) put-list.Post
 put-list-put-region-requires t c κs =

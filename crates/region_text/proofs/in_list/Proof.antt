@@ -7,15 +7,15 @@ use lib.Dec.{leb}
 use borrow.Author.Tests.{le-leb, lt-leb}
 use borrow.Author.Rules.{rules}
 use Rattle.regions.specs.declared.Region.{Region}
-use Rattle.region_text.specs.as_coded.Part.{inList}
+use Rattle.region_text.specs.AsCoded.Part.{in_list}
 use Rattle.region_text.proofs.in_list.Statement.{statement}
 use Rattle.region_text.proofs.in_list.Tie as tie
 
 module _ (t : Bool) (l h : ℕ) (r : Region) (e : t ≡ false) where
-  by_end : l ≤ r.begin → leb r.end h ≡ inList t l h r
+  by_end : l ≤ r.begin → leb r.end h ≡ in_list t l h r
   by_end p = rw (e, le-leb l r.begin p)
 
-  before : r.begin < l → leb l r.begin ≡ inList t l h r
+  before : r.begin < l → leb l r.begin ≡ in_list t l h r
   before p = rw (e, lt-leb l r.begin p)
 
 returns-2 : tie.Need-returns-2

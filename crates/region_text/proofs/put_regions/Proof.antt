@@ -7,26 +7,26 @@ use Rattle.lent.specs.Lent.{Lent, lent}
 use Rattle.regions.specs.declared.TableOf.{TableOf}
 use Rattle.regions.specs.declared.RegionRefusal.{RegionRefusal}
 use Rattle.regions.specs.declared.RegionVerdict.TheVariants.{Given, Refused}
-use Rattle.regions.specs.Region.{regionsFrom}
-use Rattle.regions.specs.Table.{regionsOf}
-use Rattle.regions.specs.as_coded.Table.{table_of}
+use Rattle.regions.specs.Region.{regions_from}
+use Rattle.regions.specs.Table.{regions_of}
+use Rattle.regions.specs.AsCoded.Table.{table_of}
 use Rattle.regions.proofs.Tables.{table-lists, table-denies}
 use Rattle.nesting.specs.Outline.{outline}
 use Rattle.text.proofs.Overlaid.{laid_as}
-use Rattle.region_text.specs.RegionText.{outlineText, refusedLine, regionsText}
+use Rattle.region_text.specs.RegionText.{outline_text, refused_line, regions_text}
 use Rattle.region_text.proofs.put_regions.Statement.{statement}
 use Rattle.region_text.proofs.put_regions.Tie as tie
 
 module _ (x : Lent) (w a : ℕ) (t : TableOf) (e : t ≡ table_of x w) where
-  outlined : t.verdict ≡ Given → outlineText 1 a (outline (regionsFrom x.bytes t.first 0 t.count)) ≡ regionsText a (regionsOf x w)
-  unfolding regionsText
+  outlined : t.verdict ≡ Given → outline_text 1 a (outline (regions_from x.bytes t.first 0 t.count)) ≡ regions_text a (regions_of x w)
+  unfolding regions_text
   outlined v =
-      ap (λ y. outlineText 1 a (outline (regionsFrom x.bytes y.first 0 y.count))) e
-      ∙ sym (ap (regionsText a) (table-lists x w (ap (λ y. y.verdict) (sym e) ∙ v)))
+      ap (λ y. outline_text 1 a (outline (regions_from x.bytes y.first 0 y.count))) e
+      ∙ sym (ap (regions_text a) (table-lists x w (ap (λ y. y.verdict) (sym e) ∙ v)))
 
-  refused : (r : RegionRefusal) → t.verdict ≡ Refused r → refusedLine r ≡ regionsText a (regionsOf x w)
-  unfolding regionsText
-  refused r v = sym (ap (regionsText a) (table-denies x w r (ap (λ y. y.verdict) (sym e) ∙ v)))
+  refused : (r : RegionRefusal) → t.verdict ≡ Refused r → refused_line r ≡ regions_text a (regions_of x w)
+  unfolding regions_text
+  refused r v = sym (ap (regions_text a) (table-denies x w r (ap (λ y. y.verdict) (sym e) ∙ v)))
 
 returns : tie.Need-returns
 returns c =

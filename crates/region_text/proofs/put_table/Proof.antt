@@ -7,7 +7,7 @@ use lib.ListN.{length, take, drop, replicate, length-append}
 use lib.Seq.{length-take-le, take_at}
 use native.Mathlib.Omega.{arith}
 use borrow.Author.Rules.{rules}
-use Rattle.nesting.specs.as_coded.Order.{orderFrom}
+use Rattle.nesting.specs.AsCoded.Order.{order_from}
 use Rattle.nesting.proofs.Orders.{order-length}
 use Rattle.text.proofs.Overlaid.{laid_as}
 use Rattle.region_text.proofs.Parts.{whole}
@@ -21,10 +21,10 @@ zeros = replicate 64 0
 -- what `order` leaves in the first places of the array
 ordered :
     (c : tie.After-order2)
-    → (let a = c.before.before.before.before.args in c.order2.new.1.1.0 ≡ orderFrom a.xdata.now a.first 0 a.count)
+    → (let a = c.before.before.before.before.args in c.order2.new.1.1.0 ≡ order_from a.xdata.now a.first 0 a.count)
 ordered c =
     let a = c.before.before.before.before.args in
-    c.order2.ensures ∙ ap (orderFrom a.xdata.now a.first 0) (length-take-le a.count zeros (omega arith))
+    c.order2.ensures ∙ ap (order_from a.xdata.now a.first 0) (length-take-le a.count zeros (omega arith))
 
 ordered-length : (c : tie.After-order2) → length c.order2.new.1.1.0 ≡ c.before.before.before.before.args.count
 ordered-length c = let a = c.before.before.before.before.args in ap length (ordered c) ∙ order-length a.xdata.now a.first 0 a.count

@@ -2,13 +2,13 @@
 use Prim.Native.Nat.{◌-◌}
 use mathlib.Core.Path.{◌≡◌, refl, sym, ◌∙◌}
 use borrow.Author.Rules.{rules}
-use Rattle.regions.specs.Region.{regionsFrom, clear}
+use Rattle.regions.specs.Region.{regions_from, clear}
 use Rattle.regions.proofs.Rows.{clear-done, clear-stops, clear-goes-on}
 use Rattle.regions.proofs.clear_of.Statement.{statement}
 use Rattle.regions.proofs.clear_of.Tie as tie
 
 abbrev invariant-loop : tie.invariant-loop
-invariant-loop xdata first r from n k₀ k = clear r (regionsFrom xdata first from (n - from)) ≡ clear r (regionsFrom xdata first k (n - k))
+invariant-loop xdata first r from n k₀ k = clear r (regions_from xdata first from (n - from)) ≡ clear r (regions_from xdata first k (n - k))
 
 abbrev decreases-loop : tie.decreases-loop
 decreases-loop xdata first r from n k₀ k = n - k

@@ -4,13 +4,13 @@ use mathlib.Core.Path.{◌≡◌, sym, ap, ◌∙◌}
 use native.Mathlib.Omega.{arith}
 use borrow.Author.Rules.{rules}
 use borrow.Author.Tests.{not-true, not-false}
-use Rattle.regions.specs.Region.{regionsFrom, sound}
+use Rattle.regions.specs.Region.{regions_from, sound}
 use Rattle.regions.proofs.Rows.{sound-done, sound-fallen, sound-crossed, sound-goes-on}
 use Rattle.regions.proofs.sound.Statement.{statement}
 use Rattle.regions.proofs.sound.Tie as tie
 
 abbrev invariant-loop : tie.invariant-loop
-invariant-loop xdata first n k₀ k = sound (regionsFrom xdata first 0 n) ≡ sound (regionsFrom xdata first k (n - k))
+invariant-loop xdata first n k₀ k = sound (regions_from xdata first 0 n) ≡ sound (regions_from xdata first k (n - k))
 
 abbrev decreases-loop : tie.decreases-loop
 decreases-loop xdata first n k₀ k = n - k
@@ -19,7 +19,7 @@ loop-holds : tie.Need-loop-init invariant-loop decreases-loop
 loop-holds c =
     let a = c.before.args in
     let z : a.n ≡ a.n - 0 = omega arith in
-    ap (λ m. sound (regionsFrom a.xdata.now a.first 0 m)) z
+    ap (λ m. sound (regions_from a.xdata.now a.first 0 m)) z
 
 returns : tie.Need-returns invariant-loop decreases-loop
 returns c =

@@ -3,8 +3,8 @@ use mathlib.Core.Path.{◌≡◌, sym, ◌∙◌}
 use native.Mathlib.Omega.{arith}
 use borrow.Author.Rules.{rules}
 use Rattle.lent.specs.Lent.{lent}
-use Rattle.xdata.specs.Xdata.{xdataSize}
-use Rattle.regions.specs.as_coded.Table.{table_of}
+use Rattle.xdata.specs.Xdata.{xdata_size}
+use Rattle.regions.specs.AsCoded.Table.{table_of}
 use Rattle.regions.proofs.Tables.{size-told, size-denied, size-end, table-given, table-refused, table-small}
 use Rattle.regions.proofs.table.Statement.{statement}
 use Rattle.regions.proofs.table.Tie as tie
@@ -14,14 +14,14 @@ table-after-requires c κs =
     let a = c.before.before.before.before.args in
     let x = lent a.rva a.xdata.now in
     let s = c.before.before.xdata-size in
-    omega (arith, size-end x a.at _ (size-told (xdataSize x a.at) s.result s.ensures c.enum_told.given.1))
+    omega (arith, size-end x a.at _ (size-told (xdata_size x a.at) s.result s.ensures c.enum_told.given.1))
 
 returns : tie.Need-returns
 returns c =
     let a = c.before.before.before.before.before.args in
     let x = lent a.rva a.xdata.now in
     let s = c.before.before.before.xdata-size in
-    let t = size-told (xdataSize x a.at) s.result s.ensures c.before.enum_told.given.1 in
+    let t = size-told (xdata_size x a.at) s.result s.ensures c.before.enum_told.given.1 in
     let e : c.table-after.result ≡ table_of x a.at = c.table-after.ensures ∙ sym (table-given x a.at _ t) in
     (e, rw e (table-small x a.at))
 
@@ -30,7 +30,7 @@ returns-2 c =
     let a = c.before.before.before.before.before.before.args in
     let x = lent a.rva a.xdata.now in
     let s = c.before.before.before.before.xdata-size in
-    let t = size-denied (xdataSize x a.at) s.result _ s.ensures c.before.before.verdict.given.1 in
+    let t = size-denied (xdata_size x a.at) s.result _ s.ensures c.before.before.verdict.given.1 in
     let e : c.no_table.result ≡ table_of x a.at = c.no_table.ensures ∙ sym (table-refused x a.at _ t) in
     (e, rw e (table-small x a.at))
 

@@ -4,10 +4,10 @@ use native.Mathlib.Omega.{arith}
 use borrow.Author.Rules.{rules}
 use borrow.Author.Tests.{not-true, not-false}
 use Rattle.words.proofs.Tests.{if-true, if-false}
-use Rattle.lent.specs.Lent.{lent, wordAt}
+use Rattle.lent.specs.Lent.{lent, word_at}
 use Rattle.regions.specs.declared.RegionRefusal.TheVariants.{TableOutside}
 use Rattle.regions.specs.Table.{first_of}
-use Rattle.regions.specs.as_coded.Table.{soundTable, noTable}
+use Rattle.regions.specs.AsCoded.Table.{sound_table, no_table}
 use Rattle.regions.proofs.Tables.{lent-inside}
 use Rattle.regions.proofs.table_read.Statement.{statement}
 use Rattle.regions.proofs.table_read.Tie as tie
@@ -17,7 +17,7 @@ returns c =
     let a = c.before.before.before.before.args in
     let x = lent a.rva a.xdata.now in
     let t = sym c.before.before.table-lent.ensures ∙ not-true _ c.before.if1.true in
-    c.no_table.ensures ∙ if-false (soundTable x.bytes (first_of x a.at) (wordAt x a.at)) (noTable TableOutside) t
+    c.no_table.ensures ∙ if-false (sound_table x.bytes (first_of x a.at) (word_at x a.at)) (no_table TableOutside) t
 
 add-sound-table : tie.Need-overflow-add-sound-table
 add-sound-table c =
@@ -44,8 +44,8 @@ returns-2 c =
     let x = lent a.rva a.xdata.now in
     let t = sym c.before.before.before.table-lent.ensures ∙ not-false _ c.before.before.if1.false in
     c.sound-table.ensures
-    ∙ ap (soundTable x.bytes (first_of x a.at)) c.before.word_at.ensures
-    ∙ if-true (soundTable x.bytes (first_of x a.at) (wordAt x a.at)) (noTable TableOutside) t
+    ∙ ap (sound_table x.bytes (first_of x a.at)) c.before.word_at.ensures
+    ∙ if-true (sound_table x.bytes (first_of x a.at) (word_at x a.at)) (no_table TableOutside) t
 
 pub table-read-spec : {M : Type 1} → statement M
 table-read-spec =

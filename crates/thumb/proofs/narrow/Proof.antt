@@ -3,14 +3,14 @@ use Prim.Native.Nat.{ℕ}
 use mathlib.Core.Path.{◌≡◌, ◌∙◌}
 use lib.ListN.{drop}
 use borrow.Author.Rules.{rules}
-use Rattle.thumb.specs.Rows.{rows16, actionIn}
+use Rattle.thumb.specs.Rows.{rows16, action_in}
 use Rattle.thumb.proofs.Rows.{hit, miss}
 use Rattle.thumb.proofs.narrow.Statement.{statement}
 use Rattle.thumb.proofs.narrow.Tie as tie
 
 -- past so many rows, none of which is for the number
 abbrev Past : (k h : ℕ) → Type 0
-Past k h = actionIn (drop k rows16) h ≡ actionIn rows16 h
+Past k h = action_in (drop k rows16) h ≡ action_in rows16 h
 
 past-1 : (c : tie.Else1) → Past 1 c.before.before.args.h
 unfolding rows16
@@ -61,7 +61,7 @@ unfolding rows16
 returns-6 c = rw c.bits10.ensures.0 (hit _ _ _ c.before.before.has6.ensures c.before.if6.true ∙ past-5 c.before.before.before)
 
 returns-7 : tie.Need-returns-7
-unfolding rows16 actionIn
+unfolding rows16 action_in
 returns-7 c = past-6 c
 
 pub narrow-spec : {M : Type 1} → statement M

@@ -3,14 +3,14 @@ use Prim.Native.Nat.{ℕ}
 use mathlib.Core.Path.{◌≡◌, ◌∙◌}
 use lib.ListN.{drop}
 use borrow.Author.Rules.{rules}
-use Rattle.thumb.specs.Rows.{rows32, actionIn}
+use Rattle.thumb.specs.Rows.{rows32, action_in}
 use Rattle.thumb.proofs.Rows.{hit, miss}
 use Rattle.thumb.proofs.wide.Statement.{statement}
 use Rattle.thumb.proofs.wide.Tie as tie
 
 -- past so many rows, none of which is for the number
 abbrev Past : (k w : ℕ) → Type 0
-Past k w = actionIn (drop k rows32) w ≡ actionIn rows32 w
+Past k w = action_in (drop k rows32) w ≡ action_in rows32 w
 
 past-1 : (c : tie.Else1) → Past 1 c.before.before.args.w
 unfolding rows32

@@ -3,7 +3,7 @@
 use mathlib.Core.Path.{ap}
 use borrow.Author.Rules.{rules}
 use Rattle.walking.specs.declared.Standing.{Standing}
-use Rattle.walking.specs.as_coded.InPlace.{stands}
+use Rattle.walking.specs.AsCoded.InPlace.{stands}
 use Rattle.walking.proofs.Turns.{turn_on, turn-off}
 use Rattle.walking.proofs.step.Statement.{statement}
 use Rattle.walking.proofs.step.Tie as tie

@@ -53,8 +53,8 @@ use Rattle.walking.specs.declared.Frame.{Frame}
 use Rattle.walking.specs.declared.State.{State}
 use Rattle.walking.specs.declared.Turn.{Turn}
 use Rattle.walking.specs.declared.Walked.{Walked}
-use Rattle.walking.specs.Walk.{Trail, walk as walkTo, walked as answered, filled}
-use Rattle.walking.specs.as_coded.Turn.{begun, turn_of, Small}
+use Rattle.walking.specs.Walk.{Trail, walk as walk_to, walked as answered, filled}
+use Rattle.walking.specs.AsCoded.Turn.{begun, turn_of, Small}
 use Rattle.walking.specs.contracts.Frame as F
 use Rattle.walking.proofs.Frame.TheLaws as F'
 use Rattle.walking.specs.contracts.State as S
@@ -64,7 +64,7 @@ use Rattle.walking.proofs.Turn.TheLaws as T'
 use Rattle.walking.specs.contracts.Walked as Z
 use Rattle.walking.proofs.Walked.TheLaws as Z'
 use Rattle.walking.proofs.Lending as Lending
-use Rattle.walking.proofs.Lending.{Lending, Fit, gv, inputsOf, unplaced}
+use Rattle.walking.proofs.Lending.{Lending, Fit, gv, inputs_of, unplaced}
 use Rattle.walking.proofs.Again.{LentAgain, lends_again, comes_back}
 use Rattle.unwinding.proofs.Looping.{less}
 use Rattle.walking.proofs.Loop.{Midway, within, fewer, midway-on, ended, midway-begins}
@@ -148,14 +148,14 @@ StepC 𝓛 mem run = triple_of 𝓛 step.signature (step.spec 𝓛 mem run)
 abbrev PutC : {M : Type 1} {𝓤 : Ura M} (𝓛 : Logic 𝓤) (mem : Memory → SProp 𝓤) (run : Routine → Fun 𝓤) → Contract 𝓤
 PutC 𝓛 mem run = triple_of 𝓛 put.signature (put.spec 𝓛 mem run)
 
-abbrev againTy : Ty
-againTy = ty_ref erased mut (pointee (F.the_row).written)
+abbrev again_ty : Ty
+again_ty = ty_ref erased mut (pointee (F.the_row).written)
 
 abbrev list_ty : Ty
 list_ty = slice_ty (ty_ref (named 3) mut (pointee (F.the_row).written))
 
-abbrev bytesTy : ℕ → Ty
-bytesTy k = slice_ty (ty_ref (named k) imm (ty_int w8))
+abbrev bytes_ty : ℕ → Ty
+bytes_ty k = slice_ty (ty_ref (named k) imm (ty_int w8))
 
 -- where the loop begins a turn, and where the next begins
 record Here (t : Inputs) (g : Regs) (L : List Frame) : Type 0 where
@@ -232,17 +232,17 @@ module _ {M : Type 1} {𝓤 : Ura M} (𝓛 : Logic 𝓤) (mem : Memory → SProp
       tt,
     )
 
-    abbrev stateOwn : State → Fml
-    stateOwn s = fsep ((S.the_row).own_val s (sv s ∷ [])) (fsep (usize.own_val n (vint w64 n ∷ [])) ftrue)
+    abbrev state_own : State → Fml
+    state_own s = fsep ((S.the_row).own_val s (sv s ∷ [])) (fsep (usize.own_val n (vint w64 n ∷ [])) ftrue)
 
-    asks-step : (s : State) → Is S.the_row s (sv s ∷ []) → s.checked ≡ checked (inputsOf i) → Small s → ent 𝓤 (sep 𝓤 (mean 𝓛 toks) (sem 𝓛 three)) ((StepC 𝓛 mem run).pre (to_step s))
+    asks-step : (s : State) → Is S.the_row s (sv s ∷ []) → s.checked ≡ checked (inputs_of i) → Small s → ent 𝓤 (sep 𝓤 (mean 𝓛 toks) (sem 𝓛 three)) ((StepC 𝓛 mem run).pre (to_step s))
     asks-step s is c small =
         qed 𝓛 (toks ∷ ‵ three ∷ []) ∵ says ! (c, small) $ frame ! $
         nothing ! $ owned ! usize (Is usize) (uint_Makes 𝓛 w64) n _ (refl, n-fits) $ fjoin ! $ owned ! S.the_row (Is S.the_row) (LL.makes S.the_type S'.the_plain 𝓛) s _ is $ fjoin ! $ move ! (1 ∷ 0 ∷ []) $
-        use2 𝓛 (‵ (lent (stateOwn s))) (Lending.inputs_in 𝓛 κp κx κk qp qx qk i fit (stateOwn s)) $ done !
+        use2 𝓛 (‵ (lent (state_own s))) (Lending.inputs_in 𝓛 κp κx κk qp qx qk i fit (state_own s)) $ done !
 
-    step-said : (s : State) (r : Turn) → ent 𝓤 (ensured 𝓛 step.ended (step.clauses 𝓛 mem run) lft3 (step-a s) tt r) (fact 𝓤 (r ≡ turn_of (inputsOf i) n s))
-    step-said s r = ex_e 𝓤 _ (λ ws. snd∗ 𝓤 (sem 𝓛 (lasts step.ended lft3 (step-a s) ws)) (fact 𝓤 (r ≡ turn_of (inputsOf i) n s)))
+    step-said : (s : State) (r : Turn) → ent 𝓤 (ensured 𝓛 step.ended (step.clauses 𝓛 mem run) lft3 (step-a s) tt r) (fact 𝓤 (r ≡ turn_of (inputs_of i) n s))
+    step-said s r = ex_e 𝓤 _ (λ ws. snd∗ 𝓤 (sem 𝓛 (lasts step.ended lft3 (step-a s) ws)) (fact 𝓤 (r ≡ turn_of (inputs_of i) n s)))
 
   module _ (b o : ℕ) (γ : GName) (L : List Frame) where
     abbrev n : ℕ
@@ -252,11 +252,11 @@ module _ {M : Type 1} {𝓤 : Ura M} (𝓛 : Logic 𝓤) (mem : Memory → SProp
     abbrev x : GName → List Frame → MutBor (List Frame)
     x δ l = record { ref_ptr = (b, o); ghost_name = δ; now = l }
 
-    abbrev listOwn : Lft → GName → List Frame → ℕ → Fml
-    listOwn ν δ l m = (MutSlice (named 3) ν F.the_row).own_val (x δ l) (slice_val (b, o) m ∷ [])
+    abbrev list_own : Lft → GName → List Frame → ℕ → Fml
+    list_own ν δ l m = (MutSlice (named 3) ν F.the_row).own_val (x δ l) (slice_val (b, o) m ∷ [])
 
-    abbrev againOwn : ℕ → GName → List Frame → ℕ → Fml
-    againOwn ν δ l m = (MutSlice (named 0) (ν ∷ []) F.the_row).own_val (x δ l) (slice_val (b, o) m ∷ [])
+    abbrev again_own : ℕ → GName → List Frame → ℕ → Fml
+    again_own ν δ l m = (MutSlice (named 0) (ν ∷ []) F.the_row).own_val (x δ l) (slice_val (b, o) m ∷ [])
 
     abbrev Arg : Type 0
     Arg = ℕ × (Bor (List ℕ) × (ℕ × (Bor (List ℕ) × (ℕ × (Bor (List ℕ) × (Regs × (Bor (List Frame) × Unit {0})))))))
@@ -280,21 +280,21 @@ module _ {M : Type 1} {𝓤 : Ura M} (𝓛 : Logic 𝓤) (mem : Memory → SProp
     Post = (walk_of 𝓛 walk'.ended stayed (walk'.clauses 𝓛 mem run)).post ((lft4, (qp, (qx, (qk, (q, tt)))), tt, a, mach), tt)
 
     abbrev trail : Trail
-    trail = walkTo (inputsOf i) n i.regs
+    trail = walk_to (inputs_of i) n i.regs
 
     abbrev Loop : Type 0
-    Loop = Here (inputsOf i) i.regs L
+    Loop = Here (inputs_of i) i.regs L
 
     abbrev begins : (s : State) → s ≡ begun (unplaced i) i.regs → Is S.the_row s (sv s ∷ []) → Loop
     begins s e is = record { left = n; s = s; fs = []; ys = L; mid = midway-begins i.image i.pdata.now i.rva i.xdata.now i.base i.stack.now i.regs L s e; good = is }
 
     -- the borrow at the list ys with its token, and what the slices own with theirs
     abbrev Kept : List Frame → List (Item 𝓤) → List (Item 𝓤)
-    Kept ys Γ = ‵ (listOwn κ γ ys n) ∷ ‵ (flft κ q) ∷ ‵ three ∷ toks ∷ Γ
+    Kept ys Γ = ‵ (list_own κ γ ys n) ∷ ‵ (flft κ q) ∷ ‵ three ∷ toks ∷ Γ
 
     -- what the registers and the list own
-    abbrev restOwn : List Frame → Fml
-    restOwn ys = fsep ((G.the_row).own_val i.regs (gv i.regs ∷ [])) (fsep (listOwn κ γ ys n) ftrue)
+    abbrev rest_own : List Frame → Fml
+    rest_own ys = fsep ((G.the_row).own_val i.regs (gv i.regs ∷ [])) (fsep (list_own κ γ ys n) ftrue)
 
     exits : (z : Walked) (zs : List Frame) → Is Z.the_row z (zv z ∷ []) → length zs ≡ n → (z ≡ answered trail) × (zs ≡ filled L trail) → ent 𝓤 (⋆ 𝓛 (Kept zs [])) (Post (zv z))
     exits z zs is l e =
@@ -303,7 +303,7 @@ module _ {M : Type 1} {𝓤 : Ura M} (𝓛 : Logic 𝓤) (mem : Memory → SProp
         move ! (3 ∷ 1 ∷ []) $ use2 𝓛 (Lending.toks4 𝓛 κp κx κk qp qx qk i κ q) (Lending.token-in 𝓛 κp κx κk qp qx qk i κ q) $ frame ! $
         -- [what list owns; what the slices own]
         nothing ! $ move ! (1 ∷ 0 ∷ []) $ fjoin ! $ owned ! G.the_row (Is G.the_row) (LL.makes G.the_type G'.the_plain 𝓛) i.regs _ fit.regs $ fjoin ! $ move ! (1 ∷ 0 ∷ []) $
-        use2 𝓛 (‵ (lent (restOwn zs))) (Lending.inputs_in 𝓛 κp κx κk qp qx qk i fit (restOwn zs)) $ frame ! $
+        use2 𝓛 (‵ (lent (rest_own zs))) (Lending.inputs_in 𝓛 κp κx κk qp qx qk i fit (rest_own zs)) $ frame ! $
         owned ! Z.the_row (Is Z.the_row) (LL.makes Z.the_type Z'.the_plain 𝓛) z _ is $ done !
 
     -- what `put`'s triple binds outside: the list lent again for the lifetime ν, under the name δ; and that it is had
@@ -317,21 +317,21 @@ module _ {M : Type 1} {𝓤 : Ura M} (𝓛 : Logic 𝓤) (mem : Memory → SProp
     to-put ν δ ys at f = (((ν ∷ [], tt), (full_share, tt), tt, put_a δ ys at f, (slice_val (b, o) n ∷ [], (vint w64 at ∷ [], (LL.vals F.the_type F'.the_laws f, tt)))), tt)
 
     asks-put : (ν : ℕ) (δ : GName) (ys : List Frame) (at : ℕ) (f : Frame) → at < 2 ^ 64 → Is F.the_row f (LL.vals F.the_type F'.the_laws f) → at < length ys
-        → ent 𝓤 (sep 𝓤 (A.lft (ν ∷ []) full_share) (sem 𝓛 (againOwn ν δ ys n))) ((PutC 𝓛 mem run).pre (to-put ν δ ys at f))
+        → ent 𝓤 (sep 𝓤 (A.lft (ν ∷ []) full_share) (sem 𝓛 (again_own ν δ ys n))) ((PutC 𝓛 mem run).pre (to-put ν δ ys at f))
     asks-put ν δ ys at f fits g inside =
-        qed 𝓛 (‵ (flft (ν ∷ []) full_share) ∷ ‵ (againOwn ν δ ys n) ∷ []) ∵ says ! inside $ nothing ! $ move ! (1 ∷ 0 ∷ []) $ join ! $ frame ! $
+        qed 𝓛 (‵ (flft (ν ∷ []) full_share) ∷ ‵ (again_own ν δ ys n) ∷ []) ∵ says ! inside $ nothing ! $ move ! (1 ∷ 0 ∷ []) $ join ! $ frame ! $
         nothing ! $ owned ! F.the_row (Is F.the_row) (LL.makes F.the_type F'.the_plain 𝓛) f _ g $ fjoin ! $ owned ! usize (Is usize) (uint_Makes 𝓛 w64) at _ (refl, fits) $ fjoin ! $ move ! (1 ∷ 0 ∷ []) $ fjoin ! $ done !
 
     module _ (𝓣 : Tables 𝓤 H) (fm : FmC 𝓤 H 𝓛.laws 𝓣.C) (known-begin : Triple 𝓤 (𝓣.C #walking·begin) (BeginC 𝓛 mem run)) (known : Triple 𝓤 (𝓣.C #walking·step) (StepC 𝓛 mem run)) (known-put : Triple 𝓤 (𝓣.C #walking·put) (PutC 𝓛 mem run)) (room : Room F.the_row n) where
       module _ (l₀ l₁ l₂ l₃ l₄ l₅ l₆ l₇ l₈ l₉ l₁₀ l₁₁ l₁₂ l₁₃ l₁₄ l₁₅ : ℕ) where
         abbrev E : Env 𝓤 H
-        E = (Z'.mir, l₀) ∷ (ty_int w32, l₁) ∷ (bytesTy 0, l₂) ∷ (ty_int w32, l₃) ∷ (bytesTy 1, l₄) ∷ (ty_int w32, l₅) ∷ (bytesTy 2, l₆) ∷ (G'.mir, l₇) ∷ (list_ty, l₈) ∷ (S'.mir, l₉) ∷ (T'.mir, l₁₀) ∷ (ty_int w64, l₁₁) ∷ (ty_bool, l₁₂) ∷ (ty_unit, l₁₃) ∷ (againTy, l₁₄) ∷ (slice_ty againTy, l₁₅) ∷ []
+        E = (Z'.mir, l₀) ∷ (ty_int w32, l₁) ∷ (bytes_ty 0, l₂) ∷ (ty_int w32, l₃) ∷ (bytes_ty 1, l₄) ∷ (ty_int w32, l₅) ∷ (bytes_ty 2, l₆) ∷ (G'.mir, l₇) ∷ (list_ty, l₈) ∷ (S'.mir, l₉) ∷ (T'.mir, l₁₀) ∷ (ty_int w64, l₁₁) ∷ (ty_bool, l₁₂) ∷ (ty_unit, l₁₃) ∷ (again_ty, l₁₄) ∷ (slice_ty again_ty, l₁₅) ∷ []
 
         abbrev I : Loop → List (Item 𝓤)
         I h =
             Kept h.ys
-            (‵ (froom (slice_ty againTy) l₁₅ 0) ∷ ‵ (fdies (slice_ty againTy) l₁₅) ∷
-            ‵ (froom againTy l₁₄ 0) ∷ ‵ (fdies againTy l₁₄) ∷
+            (‵ (froom (slice_ty again_ty) l₁₅ 0) ∷ ‵ (fdies (slice_ty again_ty) l₁₅) ∷
+            ‵ (froom again_ty l₁₄ 0) ∷ ‵ (fdies again_ty l₁₄) ∷
             ‵ (froom ty_unit l₁₃ 0) ∷ ‵ (fdies ty_unit l₁₃) ∷
             ‵ (froom ty_bool l₁₂ 0) ∷ ‵ (fdies ty_bool l₁₂) ∷
             ‵ (froom (ty_int w64) l₁₁ 0) ∷ ‵ (fdies (ty_int w64) l₁₁) ∷
@@ -339,11 +339,11 @@ module _ {M : Type 1} {𝓤 : Ura M} (𝓛 : Logic 𝓤) (mem : Memory → SProp
             ‵ (fat full_share S'.mir l₉ 0 (sv h.s)) ∷ ‵ (fdies S'.mir l₉) ∷
             ‵ (fat full_share list_ty l₈ 0 (slice_val (b, o) n)) ∷ ‵ (fdies list_ty l₈) ∷
             ‵ (fat full_share G'.mir l₇ 0 (gv i.regs)) ∷ ‵ (fdies G'.mir l₇) ∷
-            ‵ (fat full_share (bytesTy 2) l₆ 0 (slice_val i.stack.ref_ptr (length i.stack.now))) ∷ ‵ (fdies (bytesTy 2) l₆) ∷
+            ‵ (fat full_share (bytes_ty 2) l₆ 0 (slice_val i.stack.ref_ptr (length i.stack.now))) ∷ ‵ (fdies (bytes_ty 2) l₆) ∷
             ‵ (fat full_share (ty_int w32) l₅ 0 (vint w32 i.base)) ∷ ‵ (fdies (ty_int w32) l₅) ∷
-            ‵ (fat full_share (bytesTy 1) l₄ 0 (slice_val i.xdata.ref_ptr (length i.xdata.now))) ∷ ‵ (fdies (bytesTy 1) l₄) ∷
+            ‵ (fat full_share (bytes_ty 1) l₄ 0 (slice_val i.xdata.ref_ptr (length i.xdata.now))) ∷ ‵ (fdies (bytes_ty 1) l₄) ∷
             ‵ (fat full_share (ty_int w32) l₃ 0 (vint w32 i.rva)) ∷ ‵ (fdies (ty_int w32) l₃) ∷
-            ‵ (fat full_share (bytesTy 0) l₂ 0 (slice_val i.pdata.ref_ptr (length i.pdata.now))) ∷ ‵ (fdies (bytesTy 0) l₂) ∷
+            ‵ (fat full_share (bytes_ty 0) l₂ 0 (slice_val i.pdata.ref_ptr (length i.pdata.now))) ∷ ‵ (fdies (bytes_ty 0) l₂) ∷
             ‵ (fat full_share (ty_int w32) l₁ 0 (vint w32 i.image)) ∷ ‵ (fdies (ty_int w32) l₁) ∷
             ‵ (froom Z'.mir l₀ 0) ∷ ‵ (fdies Z'.mir l₀) ∷ [])
 
@@ -366,7 +366,7 @@ module _ {M : Type 1} {𝓤 : Ura M} (𝓛 : Logic 𝓤) (mem : Memory → SProp
             use2 𝓛 (raw ((StepC 𝓛 mem run).pre (to_step n room.0 h.s))) (asks-step n room.0 h.s h.good h.mid.checks h.mid.walk.small) $
             calls_at ! fm (StepC 𝓛 mem run) known (to_step n room.0 h.s) (and_then ! (load ! (from ! (stop !)) (look ! 32 refl)) (and_then ! (load ! (from ! (stop !)) (look ! 30 refl)) (and_then ! (load ! (from ! (stop !)) (look ! 28 refl)) (and_then ! (load ! (from ! (stop !)) (look ! 26 refl)) (and_then ! (load ! (from ! (stop !)) (look ! 24 refl)) (and_then ! (load ! (from ! (stop !)) (look ! 22 refl)) (and_then ! (load ! (from ! (stop !)) (look ! 16 refl)) (and_then ! (load ! (from ! (stop !)) (look ! 12 refl)) (no_more !))))))))) (λ u.
             use1 𝓛 (later (some (λ (r : Turn). (toks ⊛ ‵ ((T.the_row).own_val r (u ∷ []))) ⊛ raw (ensured 𝓛 step.ended (step.clauses 𝓛 mem run) lft3 (step-a n room.0 h.s) tt r)))) (id⊢ 𝓤 _) $ await ! tt $ pick ! (λ r.
-            split ! $ move ! (1 ∷ []) $ use1 𝓛 (raw (fact 𝓤 (r ≡ turn_of (inputsOf i) n h.s))) (step-said n room.0 h.s r) $ heard ! (r ≡ turn_of (inputsOf i) n h.s) (λ e. split ! $ move ! (1 ∷ []) $
+            split ! $ move ! (1 ∷ []) $ use1 𝓛 (raw (fact 𝓤 (r ≡ turn_of (inputs_of i) n h.s))) (step-said n room.0 h.s r) $ heard ! (r ≡ turn_of (inputs_of i) n h.s) (λ e. split ! $ move ! (1 ∷ []) $
             -- [the turn; their tokens; what the slices own; what list owns; its token; _15; …]
             peeks ! T.the_row (Is T.the_row) (shows 𝓛 T.the_row) r (u ∷ []) (λ is.
             land ! (from ! (stop !)) (init ! 15 refl ((LL.lawful T.the_type T'.the_laws 𝓛).typed r _ is).0) $
@@ -387,9 +387,9 @@ module _ {M : Type 1} {𝓤 : Ura M} (𝓛 : Logic 𝓤) (mem : Memory → SProp
             assigns ! (addr ! (from ! (fld ! refl (hop ! (look_in ! 18 (sub ! 0 refl (whole !))) (stop !))))) (from ! (stop !)) (init ! 6 refl (tt, tt)) $
             assigns ! (agg ! (and_then ! (load ! (from ! (stop !)) (look ! 6 refl)) (and_then ! (load ! (from ! (fld ! refl (stop !))) (look_in ! 18 (sub ! 1 refl (whole !)))) (no_more !)))) (from ! (stop !)) (init ! 4 refl (tt, (tt, (record { fits = room.0 }, tt)))) $
             -- the list is lent again for a lifetime ν of the call of `put`
-            lft_new ! tt (λ ν. move ! (1 ∷ 2 ∷ []) $ rewrite ! 0 (λ (m : ℕ). ‵ (listOwn κ γ h.ys m)) (sym h.mid.walk.long) refl $
-            use2 𝓛 (later (some (λ (δ : GName). ‵ (againOwn ν δ h.ys (length h.ys)) ⊛ ‵ (LentAgain F.the_row κ (ν ∷ []) q γ b o δ h.ys)))) (lends_again F.the_row κ (ν ∷ []) q γ b o 𝓛 (named 3) (named 0) h.ys) $ await ! tt $ pick ! (λ δ. split ! $
-            rewrite ! 0 (λ (m : ℕ). ‵ (againOwn ν δ h.ys m)) h.mid.walk.long refl $ move ! (2 ∷ 0 ∷ []) $ use2 𝓛 (raw ((PutC 𝓛 mem run).pre (to-put ν δ h.ys h.s.frames r.frame))) (asks-put ν δ h.ys h.s.frames r.frame sparts.1.1.1.0.1 parts.1.1.0 (within h.mid r e go)) $
+            lft_new ! tt (λ ν. move ! (1 ∷ 2 ∷ []) $ rewrite ! 0 (λ (m : ℕ). ‵ (list_own κ γ h.ys m)) (sym h.mid.walk.long) refl $
+            use2 𝓛 (later (some (λ (δ : GName). ‵ (again_own ν δ h.ys (length h.ys)) ⊛ ‵ (LentAgain F.the_row κ (ν ∷ []) q γ b o δ h.ys)))) (lends_again F.the_row κ (ν ∷ []) q γ b o 𝓛 (named 3) (named 0) h.ys) $ await ! tt $ pick ! (λ δ. split ! $
+            rewrite ! 0 (λ (m : ℕ). ‵ (again_own ν δ h.ys m)) h.mid.walk.long refl $ move ! (2 ∷ 0 ∷ []) $ use2 𝓛 (raw ((PutC 𝓛 mem run).pre (to-put ν δ h.ys h.s.frames r.frame))) (asks-put ν δ h.ys h.s.frames r.frame sparts.1.1.1.0.1 parts.1.1.0 (within h.mid r e go)) $
             calls_at ! fm (PutC 𝓛 mem run) known-put (to-put ν δ h.ys h.s.frames r.frame) (and_then ! (load ! (from ! (stop !)) (look ! 4 refl)) (and_then ! (load ! (from ! (fld ! refl (stop !))) (look_in ! 16 (sub ! 3 refl (whole !)))) (and_then ! (load ! (from ! (fld ! refl (stop !))) (look_in ! 14 (sub ! 2 refl (whole !)))) (no_more !)))) (λ w.
             use1 𝓛 (later (some (λ (z : Unit {0}). ((‵ (flft (ν ∷ []) full_share) ⊛ ‵ ftrue) ⊛ ‵ (unit.own_val z (w ∷ []))) ⊛ raw (ensured 𝓛 put.ended (put.clauses 𝓛 mem run) (ν ∷ [], tt) (put_a δ h.ys h.s.frames r.frame) tt z)))) (id⊢ 𝓤 _) $ await ! tt $ pick ! (λ z.
             split ! $ move ! (1 ∷ []) $ use1 𝓛 (some (λ (zs : List Frame × (Unit {0} × (Unit {0} × Unit {0}))). ‵ (lasts put.ended (ν ∷ [], tt) (put_a δ h.ys h.s.frames r.frame) zs) ⊛ raw (fact 𝓤 (zs.0 ≡ set h.ys h.s.frames r.frame)))) (id⊢ 𝓤 _) $ pick ! (λ zs.
@@ -399,8 +399,8 @@ module _ {M : Type 1} {𝓤 : Ura M} (𝓛 : Logic 𝓤) (mem : Memory → SProp
             land ! (from ! (stop !)) (init ! 11 refl ((Nothing-Lawful 𝓛).typed z _ isw).0) $
             -- the lifetime is ended, and the list comes back at that list
             drop ! $ split ! $ lft_end ! tt $ move ! (0 ∷ 4 ∷ 2 ∷ []) $
-            use3 𝓛 (later (‵ (listOwn κ γ zs.0 (length h.ys)) ⊛ ‵ (flft κ q))) (comes_back F.the_row κ (ν ∷ []) q γ b o 𝓛 (named 3) (named 0) h.ys δ zs.0 (subst (Room F.the_row) (sym h.mid.walk.long) room) l) $ await ! tt $ split ! $
-            move ! (2 ∷ []) $ drop ! $ move ! (2 ∷ []) $ drop ! $ rewrite ! 0 (λ (m : ℕ). ‵ (listOwn κ γ zs.0 m)) h.mid.walk.long refl $ rewrite ! 0 (λ (l' : List Frame). ‵ (listOwn κ γ l' n)) e' refl $
+            use3 𝓛 (later (‵ (list_own κ γ zs.0 (length h.ys)) ⊛ ‵ (flft κ q))) (comes_back F.the_row κ (ν ∷ []) q γ b o 𝓛 (named 3) (named 0) h.ys δ zs.0 (subst (Room F.the_row) (sym h.mid.walk.long) room) l) $ await ! tt $ split ! $
+            move ! (2 ∷ []) $ drop ! $ move ! (2 ∷ []) $ drop ! $ rewrite ! 0 (λ (m : ℕ). ‵ (list_own κ γ zs.0 m)) h.mid.walk.long refl $ rewrite ! 0 (λ (l' : List Frame). ‵ (list_own κ γ l' n)) e' refl $
             assigns_last ! (of_opd ! (load ! (from ! (fld ! refl (stop !))) (look_in ! 14 (sub ! 3 refl (whole !))))) (from ! (stop !)) (store ! 16 refl ((LL.lawful S.the_type S'.the_laws 𝓛).typed r.next _ parts.1.1.1.0).0) $
             forget ! 4 refl $ forget ! 6 refl $ forget ! 8 refl $ forget ! 10 refl $ forget ! 12 refl $ forget ! 14 refl $ again ! ≺ I h (onto h r e go parts.1.1.1.0) (fewer h.mid r e go))))))))))))))
 
@@ -419,7 +419,7 @@ module _ {M : Type 1} {𝓤 : Ura M} (𝓛 : Logic 𝓤) (mem : Memory → SProp
           pass1 ! (init ! 22 refl (tt, (tt, (record { fits = fit.xdata }, tt)))) $ pass1 ! (init ! 20 refl (tt, record { fits = fit.base })) $ pass1 ! (init ! 18 refl (tt, (tt, (record { fits = fit.stack }, tt)))) $
           pass1 ! (init ! 16 refl ((LL.lawful G.the_type G'.the_laws 𝓛).typed i.regs _ fit.regs).0) $ pass1 ! (init ! 14 refl (tt, (tt, (record { fits = room.0 }, tt)))) $ pass0 ! $
           -- [_15; …; down to room for _0; …; the tokens; what the parameters own]
-          move ! (33 ∷ []) $ use1 𝓛 (‵ three ⊛ ‵ (restOwn L)) (Lending.inputs-out 𝓛 κp κx κk qp qx qk i (restOwn L)) $ split ! $ move ! (1 ∷ []) $ fsplit ! $ drop ! $ fsplit ! $ move ! (1 ∷ []) $ drop ! $
+          move ! (33 ∷ []) $ use1 𝓛 (‵ three ⊛ ‵ (rest_own L)) (Lending.inputs-out 𝓛 κp κx κk qp qx qk i (rest_own L)) $ split ! $ move ! (1 ∷ []) $ fsplit ! $ drop ! $ fsplit ! $ move ! (1 ∷ []) $ drop ! $
           -- [what list owns; what the slices own; _15; …; the tokens]
           move ! (34 ∷ []) $ use1 𝓛 (toks ⊛ ‵ (flft κ q)) (Lending.token-out 𝓛 κp κx κk qp qx qk i κ q) $ split ! $
           move ! (3 ∷ []) $ use1 𝓛 (‵ three ⊛ ‵ three) (Lending.twice 𝓛 κp κx κk qp qx qk i) $ split ! $ move ! (2 ∷ 0 ∷ []) $

@@ -56,9 +56,9 @@ use Rattle.frame.specs.Frame.{Inputs}
 use Rattle.walking.specs.declared.Frame.{Frame}
 use Rattle.walking.specs.declared.Walked.{Walked}
 use Rattle.walking.specs.declared.WalkedAll.{WalkedAll}
-use Rattle.walking.specs.Walk.{walk as walkTo, walked as answered, filled, walkedAll}
+use Rattle.walking.specs.Walk.{walk as walk_to, walked as answered, filled, walked_all}
 use Rattle.walking.proofs.Lending as Lending
-use Rattle.walking.proofs.Lending.{Lending, Fit, gv, inputsOf}
+use Rattle.walking.proofs.Lending.{Lending, Fit, gv, inputs_of}
 use Rattle.walking.specs.contracts.Frame as F
 use Rattle.walking.proofs.Frame.TheLaws as F'
 use Rattle.walking.specs.contracts.Walked as S
@@ -78,8 +78,8 @@ use Rattle.walking.proofs.walk_all.Code as code
 abbrev R : RattleType
 R = Array F.the_row 256
 
-abbrev arrTy : Ty
-arrTy = ty_array F'.mir 256
+abbrev arr_ty : Ty
+arr_ty = ty_array F'.mir 256
 
 abbrev ref_ty : Ty
 ref_ty = slice_ty (ty_ref erased mut (pointee (F.the_row).written))
@@ -123,7 +123,7 @@ is_all zs s g h =
     (LL.owes Z.the_type Z'.the_laws (tr zs s) (h, (subst (Is R' (fields zs)) eq (is_field zs g), tt)))
 
 -- what `walk` says of a list of 256 is the whole answer
-same-all : (t : Inputs) (g : Regs) (xs zs : List Frame) (s : Walked) → length xs ≡ 256 → (s ≡ answered (walkTo t (length xs) g)) × (zs ≡ filled xs (walkTo t (length xs) g)) → tr zs s ≡ walkedAll xs (walkTo t 256 g)
+same-all : (t : Inputs) (g : Regs) (xs zs : List Frame) (s : Walked) → length xs ≡ 256 → (s ≡ answered (walk_to t (length xs) g)) × (zs ≡ filled xs (walk_to t (length xs) g)) → tr zs s ≡ walked_all xs (walk_to t 256 g)
 same-all t g xs zs s len e = rw (e.0, e.1, len)
 
 abbrev stayed : Stays (all.ended).signature.params (all.ended).kept
@@ -149,20 +149,20 @@ module _ {M : Type 1} {𝓤 : Ura M} (𝓛 : Logic 𝓤) where
   -- an array in its cell is its elements in memory, and back
   open 𝓛 use {H}
 
-  arr_in : (xs : List Frame) (b : ℕ) → ent 𝓤 (sep 𝓤 (H.at full_share arrTy b 0 (av xs)) (sem 𝓛 (R.own xs (av xs ∷ [])))) (sem 𝓛 (cells (mem F.the_row) xs b 0))
+  arr_in : (xs : List Frame) (b : ℕ) → ent 𝓤 (sep 𝓤 (H.at full_share arr_ty b 0 (av xs)) (sem 𝓛 (R.own xs (av xs ∷ [])))) (sem 𝓛 (cells (mem F.the_row) xs b 0))
   unfolding part_of
   arr_in xs b =
-      qed 𝓛 (‵ (fat full_share arrTy b 0 (av xs)) ∷ ‵ (R.own xs (av xs ∷ [])) ∷ []) ∵ use1 𝓛 (‵ (cell_at full_share R.mir (av xs ∷ []) b 0)) (𝓛.laws.at_raw full_share arrTy b 0 (av xs)) $
+      qed 𝓛 (‵ (fat full_share arr_ty b 0 (av xs)) ∷ ‵ (R.own xs (av xs ∷ [])) ∷ []) ∵ use1 𝓛 (‵ (cell_at full_share R.mir (av xs ∷ []) b 0)) (𝓛.laws.at_raw full_share arr_ty b 0 (av xs)) $
       fjoin ! $ fpack ! (List Val) (λ us. fsep (cell_at full_share R.mir us b 0) (R.own xs us)) (av xs ∷ []) $
       use1 𝓛 (‵ ((arr_parts (shares F.the_row) 256).part full_share xs b 0)) (Array-apart 𝓛 F.the_row full_share tt 256 xs b 0) $ fsplit ! $ drop ! $ by ! (whole_in 𝓛 F.the_row xs b 0)
 
-  arr_out : (zs : List Frame) (b : ℕ) → ent 𝓤 (sem 𝓛 ((Arr (mem F.the_row) 256).own_at zs b 0)) (guard 𝓤 (Is R zs (av zs ∷ [])) (H.at full_share arrTy b 0 (av zs)))
+  arr_out : (zs : List Frame) (b : ℕ) → ent 𝓤 (sem 𝓛 ((Arr (mem F.the_row) 256).own_at zs b 0)) (guard 𝓤 (Is R zs (av zs ∷ [])) (H.at full_share arr_ty b 0 (av zs)))
   unfolding part_of
   arr_out zs b =
       qed 𝓛 (‵ ((Arr (mem F.the_row) 256).own_at zs b 0) ∷ []) ∵ fsplit ! $ move ! (1 ∷ []) $ use1 𝓛 (‵ (row F.the_row full_share zs b 0)) (whole_out 𝓛 F.the_row zs b 0) $ move ! (1 ∷ 0 ∷ []) $ fjoin ! $
       use1 𝓛 (‵ (part_at R full_share zs b 0)) (Array-whole 𝓛 F.the_row full_share 256 zs b 0) $ fpick ! (λ vs. fsplit ! $
       spelt ! R (Is R) (shows 𝓛 R) (array_vals fvals) (Array-Tells F.the_row fvals (LL.tells F.the_type F'.the_laws) 256) full_share zs vs b 0 $ move ! (1 ∷ []) $ peeks ! R (Is R) (shows 𝓛 R) zs (av zs ∷ []) (λ is.
-      move ! (1 ∷ []) $ use1 𝓛 (‵ (fat full_share arrTy b 0 (av zs))) (𝓛.laws.raw_at full_share arrTy b 0 (av zs)) $ check ! is $ keep ! (0 ∷ []) $ done !))
+      move ! (1 ∷ []) $ use1 𝓛 (‵ (fat full_share arr_ty b 0 (av zs))) (𝓛.laws.raw_at full_share arr_ty b 0 (av zs)) $ check ! is $ keep ! (0 ∷ []) $ done !))
 
 module _ {M : Type 1} {𝓤 : Ura M} (𝓛 : Logic 𝓤) (at_mem : Memory → SProp 𝓤) (run : Routine → Fun 𝓤) (κp κx κk : Lft) (qp qx qk : Share) (i : Lending) (fit : Fit i) (xs : List Frame) where
   open 𝓛 use {H, A}
@@ -198,16 +198,16 @@ module _ {M : Type 1} {𝓤 : Ura M} (𝓛 : Logic 𝓤) (at_mem : Memory → SP
   Post = (walk_of 𝓛 all.ended stayed (all.clauses 𝓛 at_mem run)).post ((lft3, (qp, (qx, (qk, tt))), tt, a, mach (av xs)), tt)
 
   -- what the registers and the array own
-  abbrev arrOwn : Fml
-  arrOwn = fsep ((G.the_row).own_val i.regs (gv i.regs ∷ [])) (fsep (R.own xs (av xs ∷ [])) ftrue)
+  abbrev arr_own : Fml
+  arr_own = fsep ((G.the_row).own_val i.regs (gv i.regs ∷ [])) (fsep (R.own xs (av xs ∷ [])) ftrue)
 
-  exits : (z : WalkedAll) (v : Val) → Is R xs (av xs ∷ []) → Is Z.the_row z (v ∷ []) → z ≡ walkedAll xs (walkTo (inputsOf i) 256 i.regs) → ent 𝓤 (⋆ 𝓛 (toks ∷ ‵ three ∷ [])) (Post v)
+  exits : (z : WalkedAll) (v : Val) → Is R xs (av xs ∷ []) → Is Z.the_row z (v ∷ []) → z ≡ walked_all xs (walk_to (inputs_of i) 256 i.regs) → ent 𝓤 (⋆ 𝓛 (toks ∷ ‵ three ∷ [])) (Post v)
   exits z v gx gz e =
       qed 𝓛 (toks ∷ ‵ three ∷ []) ∵
       suffices ! _ (ends_at 𝓛 all.ended stayed (all.clauses 𝓛 at_mem run) ((lft3, (qp, (qx, (qk, tt))), tt, a, mach (av xs)), tt) v z (tt, (tt, (tt, (tt, (tt, (tt, (tt, (tt, tt)))))))) (tt, (tt, (tt, (tt, (tt, (tt, (tt, (tt, tt))))))))) $ says ! e $ frame ! $
       nothing ! $ owned ! R (Is R) (Array-Makes 𝓛 F.the_row (LL.makes F.the_type F'.the_plain 𝓛) 256) xs _ gx $ fjoin ! $
       owned ! G.the_row (Is G.the_row) (LL.makes G.the_type G'.the_plain 𝓛) i.regs _ fit.regs $ fjoin ! $ move ! (1 ∷ 0 ∷ []) $
-      use2 𝓛 (‵ (lent arrOwn)) (Lending.inputs_in 𝓛 κp κx κk qp qx qk i fit arrOwn) $ frame ! $
+      use2 𝓛 (‵ (lent arr_own)) (Lending.inputs_in 𝓛 κp κx κk qp qx qk i fit arr_own) $ frame ! $
       owned ! Z.the_row (Is Z.the_row) (LL.makes Z.the_type Z'.the_plain 𝓛) z _ gz $ done !
 
   -- what `walk`'s triple binds outside: the array at b, lent for the lifetime ν under the name γ
@@ -229,11 +229,11 @@ module _ {M : Type 1} {𝓤 : Ura M} (𝓛 : Logic 𝓤) (at_mem : Memory → SP
   abbrev to : ℕ → ℕ → GName → (WalkC 𝓛 at_mem run).Ghost
   to b ν γ = ((lft4 ν, (qp, (qx, (qk, (full_share, tt)))), tt, pa b γ, mach (slice_val (b, 0) (length xs))), tt)
 
-  abbrev sliceOwn : ℕ → ℕ → GName → Fml
-  sliceOwn b ν γ = fsep ((G.the_row).own_val i.regs (gv i.regs ∷ [])) (fsep ((MutSlice (named 3) (ν ∷ []) F.the_row).own_val (xr b γ) (slice_val (b, 0) (length xs) ∷ [])) ftrue)
+  abbrev slice_own : ℕ → ℕ → GName → Fml
+  slice_own b ν γ = fsep ((G.the_row).own_val i.regs (gv i.regs ∷ [])) (fsep ((MutSlice (named 3) (ν ∷ []) F.the_row).own_val (xr b γ) (slice_val (b, 0) (length xs) ∷ [])) ftrue)
 
   abbrev Own : ℕ → ℕ → GName → Fml
-  Own b ν γ = lent (sliceOwn b ν γ)
+  Own b ν γ = lent (slice_own b ν γ)
 
   asks : (b ν : ℕ) (γ : GName) → ent 𝓤 (sep 𝓤 (mean 𝓛 toks) (sep 𝓤 (A.lft (ν ∷ []) full_share) (sem 𝓛 (Own b ν γ)))) ((WalkC 𝓛 at_mem run).pre (to b ν γ))
   asks b ν γ =
@@ -252,7 +252,7 @@ module _ {M : Type 1} {𝓤 : Ura M} (𝓛 : Logic 𝓤) (at_mem : Memory → SP
         assigns ! (addr ! (from ! (stop !))) (from ! (stop !)) (init ! 4 refl (tt, tt)) $
         assigns ! (agg ! (and_then ! (load ! (from ! (stop !)) (look ! 4 refl)) (and_then ! (lit ! tt) (no_more !)))) (from ! (stop !)) (init ! 2 refl (tt, (tt, (record { fits = lit< tt }, tt)))) $
         rewrite ! 2 (λ (m : ℕ). ‵ (fat full_share ref_ty l₁₂ 0 (slice_val (l₉, 0) m))) (sym len) refl $
-        move ! (29 ∷ []) $ use1 𝓛 (‵ three ⊛ ‵ arrOwn) (Lending.inputs-out 𝓛 κp κx κk qp qx qk i arrOwn) $ split ! $ move ! (1 ∷ []) $ fsplit ! $ drop ! $ fsplit ! $ move ! (1 ∷ []) $ drop ! $
+        move ! (29 ∷ []) $ use1 𝓛 (‵ three ⊛ ‵ arr_own) (Lending.inputs-out 𝓛 κp κx κk qp qx qk i arr_own) $ split ! $ move ! (1 ∷ []) $ fsplit ! $ drop ! $ fsplit ! $ move ! (1 ∷ []) $ drop ! $
         -- [what list owns; what the others own; _13; …]
         move ! (1 ∷ []) $ use1 𝓛 (‵ three ⊛ ‵ three) (Lending.twice 𝓛 κp κx κk qp qx qk i) $ split ! $
         -- the array is lent, for a lifetime that is made here
@@ -262,13 +262,13 @@ module _ {M : Type 1} {𝓤 : Ura M} (𝓛 : Logic 𝓤) (at_mem : Memory → SP
         await ! tt $ pick ! (λ γ. split ! $ move ! (32 ∷ []) $
         -- [the tokens; what the slice owns; the lender's part; ν's token; what the others own, twice; _13; …]
         nothing ! $ move ! (2 ∷ 0 ∷ []) $ fjoin ! $ owned ! G.the_row (Is G.the_row) (LL.makes G.the_type G'.the_plain 𝓛) i.regs _ fit.regs $ fjoin ! $ move ! (4 ∷ 0 ∷ []) $
-        use2 𝓛 (‵ (Own l₉ ν γ)) (Lending.inputs_in 𝓛 κp κx κk qp qx qk i fit (sliceOwn l₉ ν γ)) $
+        use2 𝓛 (‵ (Own l₉ ν γ)) (Lending.inputs_in 𝓛 κp κx κk qp qx qk i fit (slice_own l₉ ν γ)) $
         move ! (1 ∷ 3 ∷ 0 ∷ []) $ use3 𝓛 (raw ((WalkC 𝓛 at_mem run).pre (to l₉ ν γ))) (asks l₉ ν γ) $
         calls_at ! fm (WalkC 𝓛 at_mem run) known (to l₉ ν γ) (and_then ! (load ! (from ! (stop !)) (look ! 26 refl)) (and_then ! (load ! (from ! (stop !)) (look ! 24 refl)) (and_then ! (load ! (from ! (stop !)) (look ! 22 refl)) (and_then ! (load ! (from ! (stop !)) (look ! 20 refl)) (and_then ! (load ! (from ! (stop !)) (look ! 18 refl)) (and_then ! (load ! (from ! (stop !)) (look ! 16 refl)) (and_then ! (load ! (from ! (stop !)) (look ! 14 refl)) (and_then ! (load ! (from ! (stop !)) (look ! 5 refl)) (no_more !))))))))) (λ u.
         use1 𝓛 (later (some (λ (r : Walked). (toks4 ν ⊛ ‵ ((S.the_row).own_val r (u ∷ []))) ⊛ raw (ensured 𝓛 callee.ended (callee.clauses 𝓛 at_mem run) (lft4 ν) (pa l₉ γ) tt r)))) (id⊢ 𝓤 _) $ await ! tt $ pick ! (λ r.
         -- what `walk` ensures, at some last list
-        split ! $ move ! (1 ∷ []) $ use1 𝓛 (some (λ (zs : Unit {0} × (Unit {0} × (Unit {0} × (Unit {0} × (Unit {0} × (Unit {0} × (Unit {0} × (List Frame × Unit {0})))))))). ‵ (lasts callee.ended (lft4 ν) (pa l₉ γ) zs) ⊛ raw (fact 𝓤 ((r ≡ answered (walkTo (inputsOf i) (length xs) i.regs)) × (zs.1.1.1.1.1.1.1.0 ≡ filled xs (walkTo (inputsOf i) (length xs) i.regs)))))) (id⊢ 𝓤 _) $ pick ! (λ zs.
-        split ! $ move ! (1 ∷ []) $ heard ! ((r ≡ answered (walkTo (inputsOf i) (length xs) i.regs)) × (zs.1.1.1.1.1.1.1.0 ≡ filled xs (walkTo (inputsOf i) (length xs) i.regs))) (λ e. fsplit ! $ drop ! $ fsplit ! $ drop ! $ fsplit ! $ drop ! $ fsplit ! $ drop ! $ fsplit ! $ drop ! $ fsplit ! $ drop ! $ fsplit ! $ drop ! $ fsplit ! $ fsplit ! $ move ! (1 ∷ []) $ feq_l ! (λ l.
+        split ! $ move ! (1 ∷ []) $ use1 𝓛 (some (λ (zs : Unit {0} × (Unit {0} × (Unit {0} × (Unit {0} × (Unit {0} × (Unit {0} × (Unit {0} × (List Frame × Unit {0})))))))). ‵ (lasts callee.ended (lft4 ν) (pa l₉ γ) zs) ⊛ raw (fact 𝓤 ((r ≡ answered (walk_to (inputs_of i) (length xs) i.regs)) × (zs.1.1.1.1.1.1.1.0 ≡ filled xs (walk_to (inputs_of i) (length xs) i.regs)))))) (id⊢ 𝓤 _) $ pick ! (λ zs.
+        split ! $ move ! (1 ∷ []) $ heard ! ((r ≡ answered (walk_to (inputs_of i) (length xs) i.regs)) × (zs.1.1.1.1.1.1.1.0 ≡ filled xs (walk_to (inputs_of i) (length xs) i.regs))) (λ e. fsplit ! $ drop ! $ fsplit ! $ drop ! $ fsplit ! $ drop ! $ fsplit ! $ drop ! $ fsplit ! $ drop ! $ fsplit ! $ drop ! $ fsplit ! $ drop ! $ fsplit ! $ fsplit ! $ move ! (1 ∷ []) $ feq_l ! (λ l.
         -- [the last list; true; the tokens and the result; the lender's part; what the others own; _13; …]
         move ! (2 ∷ []) $ split ! $ move ! (1 ∷ []) $ peeks ! S.the_row (Is S.the_row) (shows 𝓛 S.the_row) r (u ∷ []) (λ is.
         land ! (from ! (stop !)) (init ! 12 refl ((LL.lawful S.the_type S'.the_laws 𝓛).typed r _ is).0) $ rewrite ! 12 (λ (v : Val). ‵ (fat full_share S'.mir l₁₀ 0 v)) (ap only (LL.tells S.the_type S'.the_laws r (u ∷ []) is)) refl $
@@ -276,13 +276,13 @@ module _ {M : Type 1} {𝓤 : Ura M} (𝓛 : Logic 𝓤) (at_mem : Memory → SP
         drop ! $ use1 𝓛 (toks ⊛ ‵ (flft (ν ∷ []) full_share)) (Lending.token-out 𝓛 κp κx κk qp qx qk i (ν ∷ []) full_share) $ split ! $ move ! (1 ∷ []) $ lft_end ! tt $ move ! (0 ∷ 4 ∷ 2 ∷ []) $
         use3 𝓛 (later (‵ ((Arr (mem F.the_row) (length xs)).own_at zs.1.1.1.1.1.1.1.0 l₉ 0))) (slice_back 𝓛 F.the_row (ν ∷ []) γ zs.1.1.1.1.1.1.1.0 (length xs) l₉ 0) $ await ! tt $ move ! (2 ∷ []) $ drop ! $
         rewrite ! 0 (λ (m : ℕ). ‵ ((Arr (mem F.the_row) m).own_at zs.1.1.1.1.1.1.1.0 l₉ 0)) len refl $
-        use1 𝓛 (given (Is R zs.1.1.1.1.1.1.1.0 (av zs.1.1.1.1.1.1.1.0 ∷ [])) (‵ (fat full_share arrTy l₉ 0 (av zs.1.1.1.1.1.1.1.0)))) (arr_out 𝓛 zs.1.1.1.1.1.1.1.0 l₉) $ learn ! (λ gz.
+        use1 𝓛 (given (Is R zs.1.1.1.1.1.1.1.0 (av zs.1.1.1.1.1.1.1.0 ∷ [])) (‵ (fat full_share arr_ty l₉ 0 (av zs.1.1.1.1.1.1.1.0)))) (arr_out 𝓛 zs.1.1.1.1.1.1.1.0 l₉) $ learn ! (λ gz.
         -- [_9; the tokens; what the others own; _13; …; _12; …; _11; …; _10; …; (of _9); _8; …; down to room for _0; …]
         let gt = is_all zs.1.1.1.1.1.1.1.0 r gz (subst (Is S.the_row r) (LL.tells S.the_type S'.the_laws r (u ∷ []) is) is) in
         assigns ! (of_opd ! (load ! (from ! (stop !)) (look ! 0 refl))) (from ! (stop !)) (init ! 3 refl ((Array-Lawful 𝓛 F.the_row (LL.lawful F.the_type F'.the_laws 𝓛) 256).typed zs.1.1.1.1.1.1.1.0 _ gz).0) $
         assigns ! (agg ! (and_then ! (load ! (from ! (stop !)) (look ! 9 refl)) (and_then ! (load ! (from ! (stop !)) (look ! 3 refl)) (no_more !)))) (from ! (stop !)) (init ! 28 refl ((LL.lawful Z.the_type Z'.the_laws 𝓛).typed (tr zs.1.1.1.1.1.1.1.0 r) _ gt).0) $
         returns ! (look ! 28 refl) $ forget ! 0 refl $ forget ! 3 refl $ forget ! 5 refl $ forget ! 7 refl $ forget ! 9 refl $ forget ! 12 refl $ forget ! 14 refl $ forget ! 16 refl $ forget ! 18 refl $ forget ! 20 refl $ forget ! 22 refl $ forget ! 24 refl $ forget ! 26 refl $ forget ! 28 refl $
-        move ! (28 ∷ 29 ∷ []) $ free1 ! $ move ! (26 ∷ 27 ∷ []) $ free1 ! $ move ! (24 ∷ 25 ∷ []) $ free1 ! $ move ! (22 ∷ 23 ∷ []) $ free1 ! $ move ! (20 ∷ 21 ∷ []) $ free1 ! $ move ! (18 ∷ 19 ∷ []) $ free1 ! $ move ! (16 ∷ 17 ∷ []) $ free1 ! $ move ! (14 ∷ 15 ∷ []) $ free1 ! $ move ! (12 ∷ 13 ∷ []) $ free1 ! $ move ! (0 ∷ 11 ∷ []) $ free1 ! $ move ! (8 ∷ 9 ∷ []) $ free1 ! $ move ! (6 ∷ 7 ∷ []) $ free1 ! $ move ! (4 ∷ 5 ∷ []) $ free1 ! $ move ! (2 ∷ 3 ∷ []) $ free1 ! $ free0 ! $ by ! (exits (tr zs.1.1.1.1.1.1.1.0 r) (zv zs.1.1.1.1.1.1.1.0 r) gx gt (same-all (inputsOf i) i.regs xs zs.1.1.1.1.1.1.1.0 r len e)))))))))))))))))))))))))
+        move ! (28 ∷ 29 ∷ []) $ free1 ! $ move ! (26 ∷ 27 ∷ []) $ free1 ! $ move ! (24 ∷ 25 ∷ []) $ free1 ! $ move ! (22 ∷ 23 ∷ []) $ free1 ! $ move ! (20 ∷ 21 ∷ []) $ free1 ! $ move ! (18 ∷ 19 ∷ []) $ free1 ! $ move ! (16 ∷ 17 ∷ []) $ free1 ! $ move ! (14 ∷ 15 ∷ []) $ free1 ! $ move ! (12 ∷ 13 ∷ []) $ free1 ! $ move ! (0 ∷ 11 ∷ []) $ free1 ! $ move ! (8 ∷ 9 ∷ []) $ free1 ! $ move ! (6 ∷ 7 ∷ []) $ free1 ! $ move ! (4 ∷ 5 ∷ []) $ free1 ! $ move ! (2 ∷ 3 ∷ []) $ free1 ! $ free0 ! $ by ! (exits (tr zs.1.1.1.1.1.1.1.0 r) (zv zs.1.1.1.1.1.1.1.0 r) gx gt (same-all (inputs_of i) i.regs xs zs.1.1.1.1.1.1.1.0 r len e)))))))))))))))))))))))))
 
 module _ {M : Type 1} {𝓤 : Ura M} (𝓛 : Logic 𝓤) (at_mem : Memory → SProp 𝓤) (run : Routine → Fun 𝓤) where
   open 𝓛 use {H}

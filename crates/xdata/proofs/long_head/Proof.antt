@@ -4,7 +4,7 @@ use mathlib.Core.Path.{◌≡◌, sym, ap, ◌∙◌}
 use borrow.Author.Tests.{not-true, not-false}
 use borrow.Author.Rules.{rules}
 use Rattle.lent.specs.Lent.{Lent, lent, holds}
-use Rattle.xdata.specs.as_coded.Heads.{headRead}
+use Rattle.xdata.specs.AsCoded.Heads.{head_read}
 use Rattle.xdata.proofs.Heads.{long-outside, long-reserved, long-given}
 use Rattle.xdata.proofs.long_head.Statement.{statement}
 use Rattle.xdata.proofs.long_head.Tie as tie
@@ -13,7 +13,7 @@ returns : tie.Need-returns
 returns c =
     let a = c.before.before.before.before.args in
     c.no-head.ensures
-    ∙ ap headRead (sym (long-outside (lent a.rva a.xdata.now) a.at a.word (sym c.before.before.holds.ensures ∙ not-true _ c.before.if1.true)))
+    ∙ ap head_read (sym (long-outside (lent a.rva a.xdata.now) a.at a.word (sym c.before.before.holds.ensures ∙ not-true _ c.before.if1.true)))
 
 -- the .xdata; the extension word is lent where it is read
 abbrev bytes : tie.After-word-at → Lent
@@ -26,14 +26,14 @@ returns-2 : tie.Need-returns-2
 returns-2 c =
     let w = c.before.before.before in
     let z = rw c.before.before.bits.ensures.0 at c.before.if2.true in
-    c.no-head2.ensures ∙ ap headRead (sym (long-reserved (bytes w) _ _ _ w.word_at.ensures (here w) z))
+    c.no-head2.ensures ∙ ap head_read (sym (long-reserved (bytes w) _ _ _ w.word_at.ensures (here w) z))
 
 returns-3 : tie.Need-returns-3
 returns-3 c =
     let w = c.before.before.before.before.before in
     let z = rw c.before.before.before.before.bits.ensures.0 at c.before.before.before.if2.false in
     rw (c.before.before.bits2.ensures.0, c.before.bits3.ensures.0) at c.whole-record.ensures
-    ∙ ap headRead (sym (long-given (bytes w) _ _ _ w.word_at.ensures (here w) z))
+    ∙ ap head_read (sym (long-given (bytes w) _ _ _ w.word_at.ensures (here w) z))
 
 pub long-head-spec : {M : Type 1} → statement M
 long-head-spec =

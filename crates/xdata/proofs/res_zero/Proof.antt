@@ -3,13 +3,13 @@ use Prim.Native.Nat.{◌-◌, ◌≤◌}
 use mathlib.Core.Path.{◌≡◌, sym, ap, ◌∙◌}
 use native.Mathlib.Omega.{arith}
 use borrow.Author.Rules.{rules}
-use Rattle.xdata.specs.as_coded.Scopes.{resZero}
+use Rattle.xdata.specs.AsCoded.Scopes.{res_zero}
 use Rattle.xdata.proofs.Scopes.{res-done, res-stops, res-goes-on}
 use Rattle.xdata.proofs.res_zero.Statement.{statement}
 use Rattle.xdata.proofs.res_zero.Tie as tie
 
 abbrev invariant-loop : tie.invariant-loop
-invariant-loop xdata at n k₀ k = (k ≤ n) × (resZero xdata at 0 n ≡ resZero xdata at k (n - k))
+invariant-loop xdata at n k₀ k = (k ≤ n) × (res_zero xdata at 0 n ≡ res_zero xdata at k (n - k))
 
 abbrev decreases-loop : tie.decreases-loop
 decreases-loop xdata at n k₀ k = n - k
@@ -18,7 +18,7 @@ loop-holds : tie.Need-loop-init invariant-loop decreases-loop
 loop-holds c =
     let a = c.before.args in
     let z : a.n ≡ a.n - 0 = omega arith in
-    (omega arith, ap (resZero a.xdata.now a.at 0) z)
+    (omega arith, ap (res_zero a.xdata.now a.at 0) z)
 
 returns : tie.Need-returns invariant-loop decreases-loop
 returns c =

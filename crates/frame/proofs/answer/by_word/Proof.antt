@@ -3,8 +3,8 @@
 use mathlib.Core.Path.{ap, ◌∙◌}
 use native.Mathlib.Omega.{arith}
 use Rattle.lent.specs.Lent.{lent}
-use Rattle.machine.specs.as_coded.Answers.{regs}
-use Rattle.frame.specs.as_coded.FromPlace.{fromPlaced}
+use Rattle.machine.specs.AsCoded.Answers.{regs}
+use Rattle.frame.specs.AsCoded.FromPlace.{from_placed}
 use Rattle.frame.proofs.Records.{codes-inside, word-placed}
 use borrow.Author.Rules.{rules}
 use Rattle.frame.proofs.answer.by_word.Statement.{statement}
@@ -30,7 +30,7 @@ returns c =
     λ pc.
     let k = lent a.base a.stack.now in
     let g = regs a.r.now a.sp a.lr pc a.d.now in
-    c.from-placed.ensures pc ∙ ap (λ s. fromPlaced a.first k s g y.at.result.at) c.before.before.before.pick.ensures
+    c.from-placed.ensures pc ∙ ap (λ s. from_placed a.first k s g y.at.result.at) c.before.before.before.pick.ensures
     ∙ word-placed a.first k g a.o a.rva a.xdata.now a.word y.at.result y.at.ensures
 
 pub by-word-spec : {M : Type 1} → statement M

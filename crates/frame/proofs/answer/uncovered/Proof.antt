@@ -1,7 +1,7 @@
 -- By the flag.
 -- Assumes nothing.
 use mathlib.Core.Path.{sym, ap, ◌∙◌}
-use Rattle.machine.specs.as_coded.Answers.{regs}
+use Rattle.machine.specs.AsCoded.Answers.{regs}
 use Rattle.frame.specs.Frame.{uncovered}
 use borrow.Author.Rules.{rules}
 use Rattle.frame.proofs.answer.uncovered.Statement.{statement}

@@ -1,7 +1,7 @@
 -- What the pass comes to is the record's verdict. Assumes nothing.
 use mathlib.Core.Path.{ap, ◌∙◌}
-use Rattle.record.specs.as_coded.Plan.{shape_by}
-use Rattle.place.specs.as_coded.Look.{judged}
+use Rattle.record.specs.AsCoded.Plan.{shape_by}
+use Rattle.place.specs.AsCoded.Look.{judged}
 use Rattle.place.specs.declared.Passed.{Passed}
 use Rattle.place.proofs.Placing.{view-passed}
 use borrow.Author.Rules.{rules}

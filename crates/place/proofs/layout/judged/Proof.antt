@@ -1,6 +1,6 @@
 -- By what the pass came to. Assumes nothing.
 use mathlib.Core.Path.{sym, ap}
-use Rattle.place.specs.as_coded.Look.{judged}
+use Rattle.place.specs.AsCoded.Look.{judged}
 use borrow.Author.Rules.{rules}
 use Rattle.place.proofs.layout.judged.Statement.{statement}
 use Rattle.place.proofs.layout.judged.Tie as tie

@@ -7,10 +7,10 @@ use native.Mathlib.Omega.{arith}
 use mathlib.Core.List.{[]}
 use lib.ListN.{length}
 use borrow.Author.Rules.{rules}
-use Rattle.codes.specs.Code.{codesAt}
-use Rattle.record.specs.as_coded.Plan.{scopesFrom}
+use Rattle.codes.specs.Code.{codes_at}
+use Rattle.record.specs.AsCoded.Plan.{scopes_from}
 use Rattle.record.proofs.Shapes.{scopes-done, scopes-inside}
-use Rattle.place.specs.as_coded.Look.{measured, see, lookFrom}
+use Rattle.place.specs.AsCoded.Look.{measured, see, look_from}
 use Rattle.place.specs.declared.Measured.TheVariants.{Bytes}
 use Rattle.place.proofs.Looking.{turn-made, turn-bad, look_none}
 use Rattle.place.proofs.layout.look.Statement.{statement}
@@ -24,7 +24,7 @@ use Rattle.record.proofs.scope.Reads as scope-reads
 
 abbrev invariant-loop : tie.invariant-loop
 invariant-loop t codes plan xdata o first span n s₀ size₀ at₀ k₀ s size at k =
-    (k ≤ n) × (lookFrom codes span o k s (scopesFrom plan.scopes xdata k (n - k)) ≡ lookFrom codes span o 0 s₀ (scopesFrom plan.scopes xdata 0 n)) × (Bytes size ≡ measured (codesAt codes at)) × (size < 8192)
+    (k ≤ n) × (look_from codes span o k s (scopes_from plan.scopes xdata k (n - k)) ≡ look_from codes span o 0 s₀ (scopes_from plan.scopes xdata 0 n)) × (Bytes size ≡ measured (codes_at codes at)) × (size < 8192)
 
 abbrev decreases-loop : tie.decreases-loop
 decreases-loop t codes plan xdata o first span n s₀ size₀ at₀ k₀ s size at k = n - k
@@ -34,7 +34,7 @@ loop-holds c =
     let y = c.before.before.before.before in
     let a = y.args in
     let z : c.count_of.result - 0 ≡ c.count_of.result = omega arith in
-    (omega arith, ap (λ k. lookFrom a.codes.now c.before.Span-of.result a.o 0 a.seen (scopesFrom a.plan.scopes a.xdata.now 0 k)) z, y.requires.1, y.requires.2)
+    (omega arith, ap (λ k. look_from a.codes.now c.before.Span-of.result a.o 0 a.seen (scopes_from a.plan.scopes a.xdata.now 0 k)) z, y.requires.1, y.requires.2)
 
 scope-requires : tie.Need-scope-requires invariant-loop decreases-loop
 scope-requires c κs =
@@ -62,8 +62,8 @@ returns c =
     let n = h.count_of.result in
     let e = y.before.before.scope in
     turn-bad a.codes.now x q f.Span-of.result a.o l.loop.s l.loop.k n b.loop-test.true e.result e.ensures _ (sym y.measure-after.ensures.0 ∙ c.before.read2.given.1) ∙ l.loop.invariant.1
-    ∙ ap (λ z. lookFrom a.codes.now z a.o 0 a.seen (scopesFrom q x 0 n)) f.Span-of.ensures.0
-    ∙ ap (λ z. lookFrom a.codes.now a.plan.span a.o 0 a.seen (scopesFrom q x 0 z)) h.count_of.ensures.0
+    ∙ ap (λ z. look_from a.codes.now z a.o 0 a.seen (scopes_from q x 0 n)) f.Span-of.ensures.0
+    ∙ ap (λ z. look_from a.codes.now a.plan.span a.o 0 a.seen (scopes_from q x 0 z)) h.count_of.ensures.0
 
 epilogue-span-requires : tie.Need-epilogue-span-requires invariant-loop decreases-loop
 epilogue-span-requires c κs =
@@ -92,7 +92,7 @@ loop-again c =
     let span = f.Span-of.result in
     let e = y.before.before.scope in
     let k = l.loop.k in
-    (omega arith, ap (λ z. lookFrom a.codes.now span a.o (k + 1) z (scopesFrom q x (k + 1) (n - (k + 1)))) (c.see.ensures ∙ ap (see span a.o k l.loop.s) c.before.epilogue-span.ensures.0) ∙ turn-made a.codes.now x q span a.o l.loop.s k n b.loop-test.true e.result e.ensures _ (sym y.measure-after.ensures.0 ∙ r) ∙ l.loop.invariant.1, sym r ∙ y.measure-after.ensures.0, rw r at y.measure-after.ensures.1)
+    (omega arith, ap (λ z. look_from a.codes.now span a.o (k + 1) z (scopes_from q x (k + 1) (n - (k + 1)))) (c.see.ensures ∙ ap (see span a.o k l.loop.s) c.before.epilogue-span.ensures.0) ∙ turn-made a.codes.now x q span a.o l.loop.s k n b.loop-test.true e.result e.ensures _ (sym y.measure-after.ensures.0 ∙ r) ∙ l.loop.invariant.1, sym r ∙ y.measure-after.ensures.0, rw r at y.measure-after.ensures.1)
 
 returns-2 : tie.Need-returns-2 invariant-loop decreases-loop
 returns-2 c =
@@ -105,10 +105,10 @@ returns-2 c =
     let n = h.count_of.result in
     let span = f.Span-of.result in
     let k = l.loop.k in
-    let e : scopesFrom q x k (n - k) ≡ [] = scopes-done q x k n (omega arith) in
-    sym (ap (lookFrom a.codes.now span a.o k l.loop.s) e ∙ look_none a.codes.now span a.o k l.loop.s) ∙ l.loop.invariant.1
-    ∙ ap (λ z. lookFrom a.codes.now z a.o 0 a.seen (scopesFrom q x 0 n)) f.Span-of.ensures.0
-    ∙ ap (λ z. lookFrom a.codes.now a.plan.span a.o 0 a.seen (scopesFrom q x 0 z)) h.count_of.ensures.0
+    let e : scopes_from q x k (n - k) ≡ [] = scopes-done q x k n (omega arith) in
+    sym (ap (look_from a.codes.now span a.o k l.loop.s) e ∙ look_none a.codes.now span a.o k l.loop.s) ∙ l.loop.invariant.1
+    ∙ ap (λ z. look_from a.codes.now z a.o 0 a.seen (scopes_from q x 0 n)) f.Span-of.ensures.0
+    ∙ ap (λ z. look_from a.codes.now a.plan.span a.o 0 a.seen (scopes_from q x 0 z)) h.count_of.ensures.0
 
 pub look_spec : {M : Type 1} → statement M
 look_spec =

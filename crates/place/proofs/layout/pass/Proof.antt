@@ -2,10 +2,10 @@
 -- Assumes nothing.
 use mathlib.Core.Path.{sym, ap, ◌∙◌}
 use native.Mathlib.Omega.{arith}
-use Rattle.words.specs.Units.{codeBytes}
+use Rattle.words.specs.Units.{code_bytes}
 use Rattle.reader.proofs.Sizes.{scanned-ends}
-use Rattle.record.specs.as_coded.Plan.{scopesFrom}
-use Rattle.place.specs.as_coded.Look.{lookFrom, unseen}
+use Rattle.record.specs.AsCoded.Plan.{scopes_from}
+use Rattle.place.specs.AsCoded.Look.{look_from, unseen}
 use Rattle.place.specs.declared.Looked.{Looked}
 use Rattle.place.specs.declared.Passed.{Passed}
 use Rattle.place.proofs.Looking.{measured-ends, passed-made, passed-bad}
@@ -23,21 +23,21 @@ prologue-of-requires : tie.Need-prologue-of-requires
 prologue-of-requires c κs =
     let y = c.before.before.before in
     let z = y.before.before.before in
-    omega (arith, (scanned-ends z.args.codes.now (codeBytes 0) _ _ (sym y.scan.ensures ∙ c.before.list.given.1)).few, z.requires.1)
+    omega (arith, (scanned-ends z.args.codes.now (code_bytes 0) _ _ (sym y.scan.ensures ∙ c.before.list.given.1)).few, z.requires.1)
 
 add-bytes-of : tie.Need-overflow-add-bytes-of
 add-bytes-of c =
     let l = c.before.before.before.before in
     let y = l.before.before in
     let z = y.before.before.before in
-    omega (arith, (scanned-ends z.args.codes.now (codeBytes 0) _ _ (sym y.scan.ensures ∙ l.list.given.1)).few, z.requires.1)
+    omega (arith, (scanned-ends z.args.codes.now (code_bytes 0) _ _ (sym y.scan.ensures ∙ l.list.given.1)).few, z.requires.1)
 
 bytes-of-requires : tie.Need-bytes-of-requires
 bytes-of-requires c κs =
     let l = c.before.before.before.before in
     let y = l.before.before in
     let z = y.before.before.before in
-    omega (arith, (scanned-ends z.args.codes.now (codeBytes 0) _ _ (sym y.scan.ensures ∙ l.list.given.1)).few, z.requires.1)
+    omega (arith, (scanned-ends z.args.codes.now (code_bytes 0) _ _ (sym y.scan.ensures ∙ l.list.given.1)).few, z.requires.1)
 
 look-requires : tie.Need-look-requires
 look-requires c κs =
@@ -46,7 +46,7 @@ look-requires c κs =
     let z = y.before.before.before in
     let s = z.args.codes.now in
     let q = sym y.scan.ensures ∙ l.list.given.1 in
-    (z.requires, measured-ends s (codeBytes 0) _ _ _ q c.bytes_of.ensures, omega (arith, (scanned-ends s (codeBytes 0) _ _ q).few, z.requires.1, c.bytes_of.ensures))
+    (z.requires, measured-ends s (code_bytes 0) _ _ _ q c.bytes_of.ensures, omega (arith, (scanned-ends s (code_bytes 0) _ _ q).few, z.requires.1, c.bytes_of.ensures))
 
 returns : tie.Need-returns
 returns c =
@@ -56,9 +56,9 @@ returns c =
     let y = l.before.before in
     let a = y.before.before.before.args in
     let n = p.prologue-of.result in
-    let es = scopesFrom a.plan.scopes a.xdata.now 0 a.plan.count in
+    let es = scopes_from a.plan.scopes a.xdata.now 0 a.plan.count in
     let with : Looked → Passed = λ k. record { prologue = n; looked = k } in
-    ap with (c.look.ensures ∙ ap (λ k. lookFrom a.codes.now a.plan.span a.o 0 k es) (u.unseen.ensures ∙ ap (λ m. unseen m n a.plan.count) u.before.Span-of.ensures.0))
+    ap with (c.look.ensures ∙ ap (λ k. look_from a.codes.now a.plan.span a.o 0 k es) (u.unseen.ensures ∙ ap (λ m. unseen m n a.plan.count) u.before.Span-of.ensures.0))
     ∙ passed-made a.codes.now a.xdata.now a.plan.scopes a.plan.count a.plan.span a.plan.fragment a.o _ _ n (sym y.scan.ensures ∙ l.list.given.1) p.prologue-of.ensures
 
 returns-2 : tie.Need-returns-2

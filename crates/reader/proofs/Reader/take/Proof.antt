@@ -44,10 +44,10 @@ use denote.Triple.Clauses.{ensured, lasts}
 use denote.Triple.Table.{entered, cited}
 use denote.Triple.Walked.{says, needs, Stays, stay_none, stay_none_ref, walk_of, Goes-none, Goes-none_ref, Walks, ends_at, walked, walk_Meets}
 use denote.Exit.{yes}
-use Rattle.codes.specs.Code.{takeAt}
-use Rattle.codes.specs.as_coded.Rows.{rowNumbers}
-use Rattle.codes.specs.as_coded.Sizing.{sized}
-use Rattle.reader.specs.as_coded.Reading.{moved}
+use Rattle.codes.specs.Code.{take_at}
+use Rattle.codes.specs.AsCoded.Rows.{row_numbers}
+use Rattle.codes.specs.AsCoded.Sizing.{sized}
+use Rattle.reader.specs.AsCoded.Reading.{moved}
 use Rattle.reader.specs.declared.Reader.{Reader}
 use Rattle.reader.specs.declared.Step.{Step}
 use Rattle.reader.specs.declared.Moved.{Moved}
@@ -159,9 +159,9 @@ module _ {M : Type 1} {𝓤 : Ura M} (𝓛 : Logic 𝓤) (at_mem : Memory → SP
   to = ((κs, qs, tt, given-it, passed), tt)
 
   abbrev found : Moved
-  found = moved (sized (takeAt h.codes.now h.at)) h.at
+  found = moved (sized (take_at h.codes.now h.at)) h.at
 
-  module _ (is-table : tr.now ≡ rowNumbers) where
+  module _ (is-table : tr.now ≡ row_numbers) where
     asked : ent 𝓤 (on_entry 𝓛 move_at.signature κs qs given-it passed) ((MoveC 𝓛 at_mem run).pre to)
     asked = qed 𝓛 (Tokens ∷ ‵ (owns (ShrSlice (named 0) κ u8 ∷ Z.the_row ∷ S κs ∷ []) given-it passed) ∷ []) ∵ says ! is-table $ frame ! $ done !
 
@@ -196,7 +196,7 @@ module _ {M : Type 1} {𝓤 : Ura M} (𝓛 : Logic 𝓤) (at_mem : Memory → SP
       owned ! C.the_row (Is C.the_row) (EL.makes C.the_type C'.the_plain 𝓛) r.taken _ is $ fjoin ! $ by ! (own_shut 𝓛 PD PL (r.taken, (h' r.at, tt)))
 
   module _ (C₀ : Calls 𝓤 H) (Λ : Loops 𝓤 H) (fm : FmC 𝓤 H 𝓛.laws C₀) (known : Triple 𝓤 (C₀ #reader·move-at) (MoveC 𝓛 at_mem run)) where
-    walk : Is (B κs) h (mach ∷ []) → Is (S κs) tr (shr_vals tr) → tr.now ≡ rowNumbers → ent 𝓤 (on_entry 𝓛 take.signature κs qs a vs) (WpFn 𝓤 H C₀ Λ code.function (mach ∷ shr_vals tr) Post)
+    walk : Is (B κs) h (mach ∷ []) → Is (S κs) tr (shr_vals tr) → tr.now ≡ row_numbers → ent 𝓤 (on_entry 𝓛 take.signature κs qs a vs) (WpFn 𝓤 H C₀ Λ code.function (mach ∷ shr_vals tr) Post)
     walk was table is-table =
         let wt = ((LL.lawful D L 𝓛).typed h _ was).0 in
         qed 𝓛 (raw (on_entry 𝓛 take.signature κs qs a vs) ∷ []) ∵ enter ! C₀ Λ code.function (mach ∷ shr_vals tr) _ $

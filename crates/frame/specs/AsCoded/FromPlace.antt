@@ -1,0 +1,46 @@
+-- The caller from where the pc stands: the codes from an index run, 11, and the answer. That this is `within` is a law (`within-placed` of
+-- proofs/Within.antt), and that by the record found it is `by_word` (`word-placed` of proofs/Records.antt).
+use Rattle.std.specs.Prelude.{ℕ, ◌≡◌, List, Bool, true, false, length, leb, ltb}
+use Rattle.lent.specs.Lent.{Lent}
+use Rattle.words.specs.declared.CodeBytes.{CodeBytes}
+use Rattle.words.specs.declared.Place.{Place}
+use Rattle.words.specs.declared.Refusal.TheVariants.{SpFell}
+use Rattle.words.specs.declared.Verdict.{Verdict}
+use Rattle.words.specs.declared.Verdict.TheVariants.{Given, Refused}
+use Rattle.words.specs.Answer.{Res, ok, refuse, ◌>>=◌, ◌>>◌, need, if◌then◌else◌}
+use Rattle.codes.specs.Code.{scan}
+use Rattle.machine.specs.declared.Regs.{Regs}
+use Rattle.machine.specs.AsCoded.Run.{run_at}
+use Rattle.record.specs.Record.{shape_at}
+use Rattle.frame.specs.Frame.{Inputs, Caller, returned, uncovered, within, frame_of, unwound, checked}
+use Rattle.frame.specs.declared.Unwound.{Unwound}
+use Rattle.pdata.specs.declared.Checked.{Checked}
+use Rattle.place.specs.declared.Placed.{Placed}
+
+-- 11, and the caller (RULES 6.3)
+abbrev pub finish : (handler : ℕ) → (given : Regs) → Place → (codes : ℕ) → Regs → Res Caller
+finish handler g p n h =
+    need (leb g.sp h.sp) SpFell >> ok (record { regs = returned h; place = p; handler = handler; codes = n })
+
+-- the codes from an index run, and that
+abbrev pub ran_from : (stack : Lent) → (codes : List ℕ) → (handler : ℕ) → Regs → Place → CodeBytes → Res Caller
+ran_from k s handler g p i = run_at k s i g >>= finish handler g p (length (scan s i).list)
+
+-- by where the pc stands in a record: refused, run from there, or not covered
+abbrev pub placed_from :
+    (first : Bool) → (stack : Lent) → (codes : List ℕ) → (handler : ℕ) → Regs → Place → CodeBytes → (covers : Bool) → Verdict → Res Caller
+placed_from first k s handler g p i true Given = ran_from k s handler g p i
+placed_from first k s handler g p i false Given = uncovered first g
+placed_from first k s handler g p i c (Refused r) = refuse r
+
+abbrev pub from_placed : (first : Bool) → (stack : Lent) → (codes : List ℕ) → Regs → Placed → Res Caller
+from_placed first k s g p = placed_from first k s p.handler g p.place p.index p.covers p.verdict
+
+-- what a frame comes to over tables whose checks were made: those of these inputs
+abbrev pub Answers : (first : Bool) → Checked → Inputs → Regs → Unwound → Type 0
+Answers first c t g r = c ≡ checked t → r ≡ unwound g (frame_of first t g)
+
+-- by word 1 of the record found, at an offset that its function covers or not; at that of the pc it is `by_record` (`after-record` of
+-- proofs/Finding.antt)
+abbrev pub by_word : (first : Bool) → (xdata : Lent) → (word : ℕ) → (stack : Lent) → (offset : ℕ) → Regs → Res Caller
+by_word first x w k o g = shape_at x w >>= λ s. if ltb o s.span then within k s o g else uncovered first g

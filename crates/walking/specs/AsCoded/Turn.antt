@@ -1,0 +1,33 @@
+-- The walk by turns (unwinding/specs/AsCoded/Turn.antt), with what the tables showed carried along.
+use Rattle.std.specs.Prelude.{ℕ}
+use Rattle.unwinding.specs.AsCoded.Turn as Any
+use Rattle.machine.specs.declared.Regs.{Regs}
+use Rattle.pdata.specs.declared.Checked.{Checked}
+use Rattle.frame.specs.Frame.{Inputs, checked}
+use Rattle.walking.specs.declared.State.{State}
+use Rattle.walking.specs.declared.Turn.{Turn}
+use Rattle.walking.specs.Walk.{arm, frames}
+
+-- the code's state and turn, as the walk's
+abbrev pub standing : State → Any.Standing arm
+standing s = record { at = s.regs; end = s.end; frames = s.frames; codes = s.codes }
+
+abbrev pub turning : Turn → Any.Turn arm
+turning r = record { on = r.on; stop = r.stop; frame = r.frame; next = standing r.next }
+
+-- and back
+abbrev pub state : Checked → Any.Standing arm → State
+state k s = record { checked = k; regs = s.at; end = s.end; frames = s.frames; codes = s.codes }
+
+abbrev pub turned : Checked → Any.Turn arm → Turn
+turned k r = record { on = r.on; stop = r.stop; frame = r.frame; next = state k r.next }
+
+abbrev pub begun : Inputs → Regs → State
+begun t g = state (checked t) (Any.begun arm g)
+
+abbrev pub turn_of : Inputs → (room : ℕ) → State → Turn
+turn_of t room s = turned s.checked (Any.turn_of arm (frames t) room (standing s))
+
+-- at most 1,020 codes run in a frame
+abbrev pub Small : State → Type 0
+Small s = Any.Small arm 1020 (standing s)
