@@ -1,4 +1,6 @@
 // Reports on standard input, each after its length; the caller of each one's first frame, before an empty line, on standard output.
+#![tactic(auto)]
+
 use programs::Text;
 
 fn main() {

@@ -1,4 +1,6 @@
 // The caller's text (RULES 8.6): one frame's answer, and the registers of the caller, as bytes. It neither reads nor writes.
+#![tactic(auto)]
+
 ghost use Rattle.std.specs.Prelude.{◌++◌, ◌≡◌, ◌≤◌, length};
 ghost use Rattle.frame.specs.Frame.{frame, unwound};
 ghost use Rattle.text.specs.Text.{text, decimal, numbered};

@@ -1,5 +1,7 @@
 // The unwind codes (RULES 3.2): what each means, how many bytes it has, which size its instruction has. It knows neither registers'
 // values nor records.
+#![tactic(auto)]
+
 pub mod list;
 mod table;
 

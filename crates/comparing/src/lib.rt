@@ -1,5 +1,7 @@
 // A prologue's and an epilogue's instructions in one pass over their codes: the first that is not the one of its code (RULES 13.4). It knows
 // neither records nor files.
+#![tactic(auto)]
+
 ghost use Rattle.std.specs.Prelude.{◌≡◌, ◌+◌, ◌*◌, ◌^◌, ◌<◌, length};
 ghost use Rattle.words.specs.Units.{code_bytes, halfword_bytes as spec_halfword_bytes};
 ghost use Rattle.words.specs.Answer.{ok, if◌then◌else◌};

@@ -1,5 +1,7 @@
 // Which instruction a code stands for, in a prologue and in an epilogue, and whether an instruction is that one (RULES 13.5 to 13.8). It knows
 // neither lists of codes nor records.
+#![tactic(auto)]
+
 ghost use Rattle.std.specs.Prelude.{◌≡◌, ◌^◌, ◌<◌};
 ghost use Rattle.words.specs.Units.{halfword_bytes};
 ghost use Rattle.expected.specs.Expected as E;

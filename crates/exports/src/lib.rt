@@ -1,5 +1,7 @@
 // What a program in C or Rust links (`rt staticlib exports`). A slice is passed as a pointer and a length, an array as a pointer. No function
 // asks anything of what it is given.
+#![tactic(auto)]
+
 ghost use Rattle.std.specs.Prelude.{◌≡◌, length};
 ghost use Rattle.lent.specs.Lent.{lent};
 ghost use Rattle.pdata.specs.Pdata.{find, found};

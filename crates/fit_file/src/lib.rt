@@ -1,4 +1,6 @@
 // The FIT file as bytes (RULES 13.11): its words, and where its parts lie. It neither reads nor writes.
+#![tactic(auto)]
+
 ghost use Rattle.std.specs.Prelude.{◌≡◌, ◌≤◌, length, take};
 ghost use Rattle.words.specs.declared.Refusal.TheVariants.{UnfitReport};
 ghost use Rattle.lent.specs.Parts.{same};

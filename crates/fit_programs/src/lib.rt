@@ -1,5 +1,7 @@
 // What the programs of the FIT file share (RULES 13.13): a file on standard input, or several, and whether its record fits its code on standard
 // output. What is written, no contract can say; what the text is, `answer_fits` of `fits_text` says.
+#![tactic(auto)]
+
 ghost use Rattle.std.specs.Prelude.{◌≤◌, length};
 
 use fits_text::answer_fits;

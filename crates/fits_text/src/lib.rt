@@ -1,4 +1,6 @@
 // The text of a FIT file (RULES 13.12): whether its record fits its code, as bytes. It neither reads nor writes.
+#![tactic(auto)]
+
 ghost use Rattle.std.specs.Prelude.{◌++◌, ◌≡◌, ◌≤◌, length};
 ghost use Rattle.lent.specs.Lent.{lent};
 ghost use Rattle.lent.specs.Parts.{between};

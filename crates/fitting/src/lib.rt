@@ -1,5 +1,7 @@
 // Whether a compiler's record fits its function's code (RULES 13.9, 13.10): each instruction of the prologue and of the epilogues is the one
 // that its code stands for. It knows neither registers nor files.
+#![tactic(auto)]
+
 ghost use Rattle.std.specs.Prelude.{◌≡◌, true, ◌^◌, ◌≤◌, ◌<◌, length};
 ghost use Rattle.words.specs.declared.Verdict.TheVariants.{Given};
 ghost use Rattle.words.specs.Answer.{verdict};

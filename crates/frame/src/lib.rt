@@ -1,5 +1,7 @@
 // One frame: the checks of its inputs in the order of RULES 9.50, the record of its pc, the place, and the caller. It knows neither
 // lists nor files.
+#![tactic(auto)]
+
 use machine::Regs;
 use pdata::{Checked, Found};
 

@@ -1,5 +1,7 @@
 // Little-endian words of lent bytes (RULES 1.3, 1.7): a part of the .pdata, of the .xdata, of the stack, of a file. Two functions alone ask
 // of their caller that the bytes are there, `word32_in` and `word64_in`, for a caller that has tested them once for many words.
+#![tactic(auto)]
+
 ghost use Rattle.std.specs.Prelude.{◌≡◌, ◌+◌, ◌<◌, ◌≤◌, length, get_or};
 ghost use Rattle.lent.specs.Little.{word32 as word32_of, word64 as word64_of};
 ghost use Rattle.lent.specs.Lent.{Lent, lent, holds as holds_of, word_at as spec_word_at};

@@ -1,5 +1,7 @@
 // The listing of a report, as bytes (RULES 8.3): a heading, a line for each frame, and why the walk stopped. It neither reads nor
 // writes.
+#![tactic(auto)]
+
 ghost use Rattle.std.specs.Prelude.{[], ◌∷◌, ◌++◌, ◌≡◌, ◌≤◌, length};
 ghost use Rattle.frame.specs.Frame.{inputs};
 ghost use Rattle.walking.specs.Walk.{walk};

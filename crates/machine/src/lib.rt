@@ -1,5 +1,7 @@
 // The machine that codes act on: registers and the lent stack. It knows no tables. No public function asks anything of its caller, but
 // `run_in` that the table lent to it is that of `codes::row_table`.
+#![tactic(auto)]
+
 ghost use Rattle.std.specs.Prelude.{◌≡◌, List, true, ℕ, ◌+◌, ◌-◌, ◌*◌, ◌<◌, ◌≤◌, ◌^◌, eqb, length, get_or, set};
 ghost use Rattle.words.specs.Bits.{bit};
 ghost use Rattle.lent.specs.Lent.{lent, holds as holds_of};

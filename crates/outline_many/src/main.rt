@@ -1,4 +1,6 @@
 // Reports on standard input, each after its length; their outlines, each before an empty line, on standard output.
+#![tactic(auto)]
+
 fn main() {
     outline_programs::outline_many();
 }

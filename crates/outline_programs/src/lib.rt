@@ -1,5 +1,7 @@
 // What the programs of the outline share (RULES 8.18): a report on standard input, or several, and its parts on standard output, each written as
 // it is made. What is written, no contract can say; what the parts are, `next_part` of `outlining` says.
+#![tactic(auto)]
+
 ghost use Rattle.std.specs.Prelude.{◌≤◌, length};
 ghost use Rattle.outlining.specs.AsCoded.Parts.{Ready};
 

@@ -1,5 +1,7 @@
 // The listing of a report with each frame's regions under its line (RULES 8.14): part by part, as bytes into a lent buffer. It neither reads
 // nor writes.
+#![tactic(auto)]
+
 ghost use mathlib.Core.List.{[], flatten};
 ghost use Rattle.std.specs.Prelude.{◌≡◌, ◌-◌, ◌≤◌, length};
 ghost use Rattle.pdata.specs.Pdata.{find, checked as starts_of};

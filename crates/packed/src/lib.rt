@@ -1,5 +1,7 @@
 // Packed words: their fields, the word's writer, the stack adjustment and the registers that they stand for. It knows neither registers'
 // values nor the stack.
+#![tactic(auto)]
+
 ghost use Rattle.std.specs.Prelude.{◌≡◌, ◌+◌, ◌-◌, ◌*◌, ◌%◌, ◌^◌, ◌<◌, ◌≤◌, eqb};
 ghost use Rattle.codes.specs.Table.{range as range_of, lr_if as spec_lr_if};
 ghost use Rattle.words.specs.Answer.{if◌then◌else◌};

@@ -1,5 +1,7 @@
 // The code bytes that a packed word stands for: the prologue's codes in reverse, and the epilogue's. It knows neither registers' values
 // nor the stack.
+#![tactic(auto)]
+
 ghost use Rattle.std.specs.Prelude.{◌≡◌, ◌∷◌, ◌++◌, [], true, false, ◌&&◌, not, ◌+◌, ◌≤◌, ◌<◌, eqb};
 ghost use Rattle.words.specs.Bits.{bits as bits_of};
 ghost use Rattle.codes.specs.Table.{lr_if};

@@ -1,4 +1,6 @@
 // The .pdata: its records, its order, and the record of a pc.
+#![tactic(auto)]
+
 ghost use Rattle.std.specs.Prelude.{◌≡◌, true, ◌/◌, ◌<◌, length};
 ghost use Rattle.words.specs.Answer.{ok, refuse};
 ghost use Rattle.unwinding.specs.View.{ascending as ascending_of};

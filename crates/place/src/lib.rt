@@ -1,5 +1,7 @@
 // Where an offset stands in a record, and the index at which the codes that run there begin: 4 and 5 for the record, 6 and 7 without an
 // offset, 9 and 10 with one. It knows no registers. The code bytes of a record are at most 255 words.
+#![tactic(auto)]
+
 pub mod layout; // the epilogues of a record in one pass
 
 ghost use Rattle.std.specs.Prelude.{◌≡◌, ◌-◌, ◌^◌, ◌≤◌, ◌<◌, length};

@@ -1,5 +1,7 @@
 // What the programs share (RULES 8.8 to 8.11): a report on standard input, or several, and the text that is asked for on standard
 // output. What is read and written, no contract can say; what the text of a report is, `make` says.
+#![tactic(auto)]
+
 ghost use Rattle.std.specs.Prelude.{◌≡◌, ◌≤◌, length};
 ghost use Rattle.text.specs.Overlay.{overlay};
 ghost use Rattle.programs.specs.Texts.{text_of};

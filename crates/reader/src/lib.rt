@@ -1,5 +1,7 @@
 // The reader on code bytes: one code after the other, a pass over a code list, and skipping codes. It knows neither registers nor
 // records.
+#![tactic(auto)]
+
 ghost use Rattle.std.specs.Prelude.{◌≡◌, ◌+◌, ◌<◌};
 ghost use Rattle.codes.specs.Code.{take_at, scan as scan_of};
 ghost use Rattle.codes.specs.AsCoded.Rows.{row_numbers};

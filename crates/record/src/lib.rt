@@ -1,5 +1,7 @@
 // Records, packed and full, as one plan beside their code bytes: what stands for a Shape in code. It knows neither registers nor the
 // stack.
+#![tactic(auto)]
+
 ghost use Rattle.std.specs.Prelude.{◌≡◌, ◌+◌, ◌-◌, ◌≤◌, ◌<◌, eqb, length};
 ghost use Rattle.lent.specs.Lent.{lent};
 ghost use Rattle.words.specs.Answer.{refuse, verdict, if◌then◌else◌};

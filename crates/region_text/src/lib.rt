@@ -1,4 +1,6 @@
 // The outline of a record's regions as text, into a lent buffer (RULES 8.15, 8.16).
+#![tactic(auto)]
+
 ghost use Rattle.std.specs.Prelude.{[], ◌∷◌, ◌≡◌, ◌+◌, ◌<◌, ◌≤◌, length};
 ghost use Rattle.lent.specs.Lent.{lent};
 ghost use Rattle.regions.specs.Region.{regions_from};

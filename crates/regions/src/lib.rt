@@ -1,4 +1,6 @@
 // The guarded regions of an .xdata record (RULES 2.14): the table behind the handler word. It knows no registers and no pc.
+#![tactic(auto)]
+
 ghost use Rattle.std.specs.Prelude.{◌≡◌, ◌+◌, ◌-◌, ◌≤◌, length};
 ghost use Rattle.lent.specs.Lent.{lent};
 ghost use Rattle.regions.specs.Region.{region_from, region_in, regions_from, upright as upright_of, overlaps as overlaps_of, cross as cross_of, clear, sound as sound_of};

@@ -1,4 +1,6 @@
 // The report file as bytes (RULES 8.1): its numbers, its registers, and where its parts lie. It neither reads nor writes.
+#![tactic(auto)]
+
 ghost use Rattle.std.specs.Prelude.{◌≡◌, ◌≤◌, length, take};
 ghost use Rattle.words.specs.declared.Refusal.TheVariants.{UnfitReport};
 ghost use Rattle.lent.specs.Parts.{same};

@@ -1,5 +1,7 @@
 // Reports that follow one another on a descriptor, each after its length (RULES 8.9). No contract can say which bytes a read puts into a
 // buffer; how many of them came, and that they lie in the buffer, it can.
+#![tactic(auto)]
+
 ghost use Rattle.std.specs.Prelude.{◌≡◌, ◌≤◌, length};
 ghost use Rattle.streams.specs.Filled.{Gave, Fills, Passes, Follows, Stands};
 

@@ -1,5 +1,7 @@
 // Text into a lent buffer, which is never overrun (RULES 8.7): what fits is written, and the place counts on, so that the last place
 // tells how much room was needed. Each function takes the place to write at and gives the place after. No public one asks anything of its caller.
+#![tactic(auto)]
+
 ghost use Rattle.std.specs.Prelude.{[], ◌∷◌, ◌++◌, ◌≡◌, ◌+◌, ◌%◌, ◌<◌, ◌≤◌, length};
 ghost use Rattle.text.specs.Text.{digit as digit_of, digits, decimal_length as spec_decimal_length, decimal, hex8, hex16, addresses};
 ghost use Rattle.text.specs.Overlay.{overlay, Laid};

@@ -1,5 +1,7 @@
 // Thumb instructions that unwind codes stand for (RULES 13.1 to 13.3): what one does, by the encodings of the ARM Architecture Reference
 // Manual, whose names stand at the rows. It knows no codes, and neither registers' values nor memory.
+#![tactic(auto)]
+
 ghost use Rattle.std.specs.Prelude.{◌≡◌, ◌+◌, ◌^◌, ◌≤◌, ◌<◌, eqb, length};
 ghost use Rattle.std.specs.Int.Bits.{bit_and};
 ghost use Rattle.lent.specs.Little.{word16};

@@ -1,5 +1,7 @@
 // What skipping and undoing codes mean on any machine: the definitions stand in specs/, over the type of the codes, their sizes, the
 // state and one code's step. Nothing here knows ARM.
+#![tactic(auto)]
+
 use words::CodeBytes;
 
 // An epilogue starts at an offset in bytes, or so that it ends where the function does.

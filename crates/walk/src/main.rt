@@ -1,4 +1,6 @@
 // A report on standard input, its listing on standard output.
+#![tactic(auto)]
+
 use programs::Text;
 
 fn main() {

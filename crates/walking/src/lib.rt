@@ -1,4 +1,6 @@
 // The walk (RULES 7): frame after frame into a list that was lent. It knows no files.
+#![tactic(auto)]
+
 ghost use Rattle.std.specs.Prelude.{◌≡◌, ◌+◌, ◌*◌, ◌<◌, ◌≤◌, length, set};
 ghost use Rattle.frame.specs.Frame.{inputs, checked as checked_of};
 ghost use Rattle.walking.specs.Walk.{next_frame as spec_next_frame, walk as walk_of, Walks, walked_all};

@@ -1,5 +1,7 @@
 // The vocabulary that every other crate speaks: the three units (RULES 1.6), the bits of a word, the refusals (RULES 9), the places. It
 // knows neither records nor registers. No function asks anything of its caller.
+#![tactic(auto)]
+
 ghost use Rattle.std.specs.Prelude.{◌≡◌, ◌+◌, ◌^◌, ◌<◌, ◌≤◌};
 ghost use Rattle.words.specs.Bits.{bits as bits_of, bit as bit_of, even as even_of};
 ghost use Rattle.words.specs.Units.{halfword_bytes as spec_halfword_bytes, stack_bytes as spec_stack_bytes, code_word_bytes as spec_code_word_bytes};

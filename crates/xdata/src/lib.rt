@@ -1,4 +1,6 @@
 // .xdata records: the head, the size, the scope words, the handler. It knows neither registers nor the stack.
+#![tactic(auto)]
+
 ghost use Rattle.std.specs.Prelude.{◌≡◌, ◌+◌, ◌*◌, ◌<◌, ◌≤◌, length};
 ghost use Rattle.lent.specs.Lent.{lent};
 ghost use Rattle.lent.specs.Little.{word32};

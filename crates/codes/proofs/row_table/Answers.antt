@@ -3,12 +3,8 @@
 use mathlib.Core.Path.{refl}
 use Rattle.codes.specs.Table.{rows, row_in}
 use Rattle.codes.specs.AsCoded.Rows.{row_numbers}
-use Rattle.codes.proofs.row_table.Statement.{statement}
-use Rattle.codes.proofs.row_table.Tie as tie
+use Rattle.codes.proofs.row_table.Goals as goal
 
-returns : tie.Need-returns
+pub returns : goal.returns
 unfolding rows row_in row_numbers
 returns c = refl
-
-pub row-table-spec : {M : Type 1} → statement M
-row-table-spec = tie.close (tie.spec returns)

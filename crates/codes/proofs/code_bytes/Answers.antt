@@ -8,15 +8,11 @@ use Rattle.codes.specs.Table.{rows, row_in, row_of}
 use Rattle.codes.specs.AsCoded.Rows.{row_numbers}
 use Rattle.codes.proofs.Rows.{row-few}
 use Rattle.codes.proofs.Sorts.{entry-bytes, entry_has}
-use Rattle.codes.proofs.code_bytes.Statement.{statement}
-use Rattle.codes.proofs.code_bytes.Tie as tie
+use Rattle.codes.proofs.code_bytes.Goals as goal
 
-returns : tie.Need-returns
+pub returns : goal.returns
 unfolding rows row_in row_numbers
 returns c =
     let b = c.args.b in
     entry_has b c.ranges.b.fits (λ n. (n % 8 ≡ (row_of b).bytes) × (1 ≤ n % 8) × (n % 8 ≤ 4))
     (entry-bytes b, omega (arith, entry-bytes b, (row-few b).some), omega (arith, entry-bytes b, (row-few b).most))
-
-pub code-bytes-spec : {M : Type 1} → statement M
-code-bytes-spec = tie.close (tie.spec (λ c. search rules) (λ c. search rules) returns)

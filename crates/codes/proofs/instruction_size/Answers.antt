@@ -10,15 +10,11 @@ use Rattle.codes.specs.Table.{rows, row_in, row_of}
 use Rattle.codes.specs.AsCoded.Rows.{row_numbers}
 use Rattle.codes.proofs.Rows.{row-few}
 use Rattle.codes.proofs.Sorts.{entry-size, entry_has}
-use Rattle.codes.proofs.instruction_size.Statement.{statement}
-use Rattle.codes.proofs.instruction_size.Tie as tie
+use Rattle.codes.proofs.instruction_size.Goals as goal
 
-returns : tie.Need-returns
+pub returns : goal.returns
 unfolding rows row_in row_numbers
 returns c =
     let b = c.args.b in
     entry_has b c.ranges.b.fits (λ n. (halfwords (n / 8 % 4) ≡ (row_of b).size) × (n / 8 % 4 ≤ 2))
     (ap halfwords (entry-size b), omega (arith, entry-size b, (row-few b).small))
-
-pub instruction-size-spec : {M : Type 1} → statement M
-instruction-size-spec = tie.close (tie.spec (λ c. search rules) (λ c. search rules) returns)
