@@ -3,7 +3,6 @@
 use Prim.Native.Nat.{◌≤◌, ◌%◌}
 use mathlib.Core.Path.{◌≡◌}
 use native.Mathlib.Omega.{arith}
-use borrow.Author.Rules.{rules}
 use Rattle.codes.specs.Table.{rows, row_in, row_of}
 use Rattle.codes.specs.AsCoded.Rows.{row_numbers}
 use Rattle.codes.proofs.Rows.{row-few}

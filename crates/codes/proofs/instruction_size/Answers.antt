@@ -4,7 +4,6 @@
 use Prim.Native.Nat.{◌≤◌, ◌/◌, ◌%◌}
 use mathlib.Core.Path.{◌≡◌, ap}
 use native.Mathlib.Omega.{arith}
-use borrow.Author.Rules.{rules}
 use Rattle.words.specs.Units.{halfwords}
 use Rattle.codes.specs.Table.{rows, row_in, row_of}
 use Rattle.codes.specs.AsCoded.Rows.{row_numbers}

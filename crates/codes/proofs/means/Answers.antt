@@ -3,7 +3,6 @@ use Prim.Native.Nat.{ℕ, ◌+◌, ◌≤◌}
 use mathlib.Core.Path.{◌≡◌, sym, ◌∙◌}
 use mathlib.Core.Logic.{inl, inr}
 use native.Mathlib.Omega.{arith}
-use borrow.Author.Rules.{rules}
 use borrow.Author.Tests.{le-leb}
 use Rattle.codes.proofs.Registers.{from-r4, bit-number}
 use Rattle.codes.proofs.Meanings.{row-00, row-80, row-C0, row-D0, row-D8, row-E0, row-E8, row-EC, row-EE, row-EF, row-F5, row-F6, row-F7, row-F8, row-FB, row-FD}
@@ -84,13 +83,13 @@ returns-in-236-to-237 c =
     c.pop-in-236-to-237.ensures ∙ rw (c.bits-in-236-to-237.ensures.0, c.bit-in-236-to-237.ensures, bit-number 8 a.v) (row-EC a.b a.v (omega arith) (omega arith))
 
 pub returns-in_default : goal.returns-in_default
-returns-in_default c = let a = c.args in row-EE a.b a.v (omega arith) (omega arith) c.in_default-1.rest.0.0.0.0.1
+returns-in_default c = let a = c.args in row-EE a.b a.v (omega arith) (omega arith) (λ e. omega arith)
 
 pub returns-in-251 : goal.returns-in-251
 returns-in-251 c =
     let a = c.args in
-    let r = c.in_default-1.rest in
-    let l6 = past 0xF5 a.b c.if-b-lt245.false r.0.0.0.1 in
+    let r = c.in-251.in_default-own.rest in
+    let l6 = past 0xF5 a.b c.in-251.if-b-lt245-own.false r.0.0.0.1 in
     let l8 = past 0xF7 a.b (past 0xF6 a.b l6 r.0.0.1) (λ e. r.0.1 (inl e)) in
     let la = past 0xF9 a.b (past 0xF8 a.b l8 (λ e. r.1 (inl e))) (λ e. r.0.1 (inr e)) in
     row-FB a.b a.v (past 0xFA a.b la (λ e. r.1 (inr e))) c.in-251.if-b-lt253-own.true

@@ -1,6 +1,5 @@
 -- The list is the sum that the definition names. Assumes nothing.
 use mathlib.Core.Path.{refl}
-use borrow.Author.Rules.{rules}
 use Rattle.codes.proofs.pop.Goals as goal
 
 pub returns : goal.returns

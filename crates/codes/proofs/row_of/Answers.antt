@@ -2,7 +2,6 @@
 -- Assumes nothing.
 use mathlib.Core.Path.{◌≡◌, refl, ap, ◌∙◌}
 use lib.ListN.{get_or}
-use borrow.Author.Rules.{rules}
 use Rattle.codes.specs.AsCoded.Rows.{entry_of}
 use Rattle.codes.proofs.Sorts.{entry_has}
 use Rattle.codes.proofs.row_of.Goals as goal

@@ -3,7 +3,6 @@
 use Prim.Native.Nat.{◌+◌}
 use mathlib.Core.Path.{sym, ◌∙◌}
 use native.Mathlib.Omega.{arith}
-use borrow.Author.Rules.{rules}
 use Rattle.codes.proofs.Sizing.{sort-0, sort-1, sort-2, second, fits_one, fits_not}
 use Rattle.codes.proofs.size_as.Goals as goal
 
@@ -43,4 +42,4 @@ returns c =
     let a = c.args in
     let p = c.requires in
     let known = c.shared_slice_known-1.given in
-    fits_not a.codes.now a.at.0 a.row p.0 p.1 (known a.at.0).fits (omega arith) (known (a.at.0 + 1)).fits (sym c.fits.ensures ∙ c.if-sort-eq0.false)
+    fits_not a.codes.now a.at.0 a.row p.0 p.1 (known a.at.0).fits (omega arith) (known (a.at.0 + 1)).fits (sym c.fits.ensures ∙ c.if-fits.false)

@@ -2,7 +2,6 @@
 -- Assumes nothing.
 use mathlib.Core.Path.{sym, ap}
 use native.Mathlib.Omega.{arith}
-use borrow.Author.Rules.{rules}
 use Rattle.codes.specs.AsCoded.Sizing.{sized}
 use Rattle.codes.proofs.Sorts.{entry-count}
 use Rattle.codes.proofs.Taking.{take_past, take_short}

@@ -1,7 +1,6 @@
 -- `codes::take_as` meets its contract: it goes by the meaning, as the definition does.
 -- Assumes nothing.
 use mathlib.Core.Path.{sym, ap, ap₂, ◌∙◌}
-use borrow.Author.Rules.{rules}
 use Rattle.codes.specs.Table.{row_of}
 use Rattle.codes.specs.Code.{taken}
 use Rattle.codes.specs.declared.Taken.TheVariants.{One, Last}

@@ -2,7 +2,6 @@
 -- Assumes nothing.
 use mathlib.Core.Path.{◌≡◌, sym, ap, ◌∙◌}
 use native.Mathlib.Omega.{arith}
-use borrow.Author.Rules.{rules}
 use Rattle.codes.proofs.Values.{bytes, bytes_one, bytes-more}
 use Rattle.codes.proofs.value.Goals as goal
 
@@ -29,6 +28,6 @@ returns c =
     let a = c.args in
     let one = bytes_one a.codes.now a.at _ (omega arith) c.byte-one.ensures.0 in
     let two = bytes-more a.codes.now a.at 1 _ _ (omega arith) one c.byte.ensures.0 in
-    let three = bytes-more a.codes.now a.at 2 _ _ (omega arith) two c.byte-one.ensures.0 in
+    let three = bytes-more a.codes.now a.at 2 _ _ (omega arith) two c.byte-2.ensures.0 in
     let n : 4 ≡ a.n = omega arith in
-    bytes-more a.codes.now a.at 3 _ _ (omega arith) three c.byte-one.ensures.0 ∙ ap (bytes a.codes.now a.at) n
+    bytes-more a.codes.now a.at 3 _ _ (omega arith) three c.byte-3.ensures.0 ∙ ap (bytes a.codes.now a.at) n

@@ -4,10 +4,6 @@ use native.Mathlib.Omega.{arith}
 use Prim.Native.Nat.{◌+◌}
 use mathlib.Core.Path.{sym}
 use lib.ListN.{get_or-eq_default}
-use borrow.Author.Rules.{rules}
-use Rattle.lent.proofs.byte_after.Reads as reads
-use Rattle.lent.proofs.byte_after.Lts as lts
-use Rattle.lent.proofs.byte_in.Reads as byte-in-reads
 use Rattle.lent.proofs.byte_after.Goals as goal
 
 pub returns-then-s-at : goal.returns-then-s-at

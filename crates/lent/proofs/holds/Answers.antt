@@ -7,9 +7,6 @@ use lib.ListN.{length}
 use borrow.Author.Tests.{lt-leb}
 use Rattle.words.proofs.Tests.{leb-same}
 use Rattle.lent.proofs.Laws.{holds-below, holds-above}
-use borrow.Author.Rules.{rules}
-use Rattle.lent.proofs.holds.Reads as reads
-use Rattle.lent.proofs.holds.Lts as lts
 use Rattle.lent.proofs.holds.Goals as goal
 
 pub returns-then-at-low : goal.returns-then-at-low

@@ -4,7 +4,6 @@ use native.Mathlib.Omega.{arith}
 use Prim.Native.Nat.{◌+◌}
 use mathlib.Core.Path.{◌≡◌}
 use Rattle.lent.proofs.Laws.{byte-same}
-use borrow.Author.Rules.{rules}
 use Rattle.lent.proofs.word32_bytewise.Goals as goal
 
 pub returns : goal.returns

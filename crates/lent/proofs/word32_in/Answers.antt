@@ -4,10 +4,6 @@ use native.Mathlib.Omega.{arith}
 use Prim.Native.Nat.{◌+◌}
 use mathlib.Core.Path.{◌≡◌}
 use Rattle.lent.proofs.Laws.{byte-same}
-use borrow.Author.Rules.{rules}
-use Rattle.lent.proofs.word32_in.Reads as reads
-use Rattle.lent.proofs.word32_in.Lts as lts
-use Rattle.lent.proofs.byte_in.Reads as byte-in-reads
 use Rattle.lent.proofs.word32_in.Goals as goal
 
 pub returns : goal.returns

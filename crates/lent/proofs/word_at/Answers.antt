@@ -4,10 +4,6 @@ use native.Mathlib.Omega.{arith}
 use Prim.Native.Nat.{◌-◌}
 use mathlib.Core.Path.{◌≡◌, ap, ◌∙◌}
 use Rattle.lent.specs.Little.{word32}
-use borrow.Author.Rules.{rules}
-use Rattle.lent.proofs.word_at.Reads as reads
-use Rattle.lent.proofs.word_at.Lts as lts
-use Rattle.lent.proofs.word32.Reads as word32-reads
 use Rattle.lent.proofs.word_at.Goals as goal
 
 pub returns-then-at-low : goal.returns-then-at-low
