@@ -116,11 +116,15 @@ def paths(text, names, at):
     return re.sub(r"(?<![\w'.₀₁-])([A-Za-z][\w'₀₁-]*)((?:\.[\w'-]+)+)", path, text)
 
 
+USED = set()
+
+
 def places(text, names):
     def place(m):
         name = m.group(1)
         got = names.places.get(norm(name))
-        return "goal." + (got or name)
+        USED.add(got or name)
+        return got or name
 
     return re.sub(r"tie\.([A-Z][\w-]*)((?: (?:invariant|decreases)-[\w-]+)*)", place, text)
 
@@ -215,6 +219,7 @@ def loop_names(names):
 
 def write(crate, fn, folder, module, heads, uses, out, renames, names, has_goal):
     loops = loop_names(names)
+    USED.clear()
     answers, invs = [], []
     n_inv = 0
     for kind, name, extra, whole in out:
@@ -248,7 +253,8 @@ def write(crate, fn, folder, module, heads, uses, out, renames, names, has_goal)
         with open(os.path.join(folder, "Invariants.antt"), "w", encoding="utf-8") as f:
             f.write(head + "\n" + "\n".join(uses) + f"\nuse {module}.Given as goal\n\n" + "\n\n".join(invs) + "\n")
     if has_goal or any(k == "own" for k, *_ in out):
-        text = head + "\n" + "\n".join(uses) + f"\nuse {module}.Goals as goal\n\n" + "\n\n".join(answers) + "\n"
+        named = f"use {module}.Goals.{{{', '.join(sorted(USED))}}}\n" if USED else ""
+        text = head + "\n" + "\n".join(uses) + f"\nuse {module}.Goals as goal\n{named}\n" + "\n\n".join(answers) + "\n"
         if has_goal:
             with open(os.path.join(folder, "Answers.antt"), "w", encoding="utf-8") as f:
                 f.write(text)

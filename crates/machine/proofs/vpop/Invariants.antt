@@ -1,0 +1,25 @@
+-- `vpop` meets its contract. The loop's invariant: the registers and SP are what the definition's vpop of the numbers passed gives. The
+-- measure is how many are left. A turn's refusal is the whole vpop's.
+-- Assumes nothing.
+use Prim.Native.Nat.{ℕ, ◌+◌, ◌-◌, ◌≤◌}
+use mathlib.Core.Path.{◌≡◌, sym, ap, ◌∙◌}
+use mathlib.Core.List.{List}
+use native.Mathlib.Omega.{arith}
+use borrow.Author.Rules.{rules}
+use Rattle.lent.specs.Lent.{lent}
+use Rattle.words.specs.Answer.{ok}
+use Rattle.machine.specs.Step.{load, pop_d, vpop}
+use Rattle.machine.specs.AsCoded.Answers.{regs}
+use Rattle.machine.proofs.Answers.{two-words}
+use Rattle.machine.proofs.Loading.{load_inside}
+use Rattle.machine.proofs.Popping.{goes_on, stops, vpop-none, vpop-next, d-words, d-refused}
+use Rattle.machine.proofs.vpop.Given as goal
+
+abbrev pub invariant-loop-x : goal.invariant-loop-x
+invariant-loop-x l =
+    (l.s ≤ l.x)
+    × (l.x - l.s ≤ l.e + 1 - l.s)
+    × ((r : List ℕ) (pc : ℕ) → vpop (lent l.base l.stack) l.s (l.x - l.s) (regs r l.sp l.lr pc l.initial.d) ≡ ok (regs r l.at l.lr pc l.d))
+
+abbrev pub decreases-loop-x : goal.decreases-loop-x
+decreases-loop-x l = l.e + 1 - l.x
