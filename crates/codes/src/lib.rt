@@ -18,7 +18,7 @@ use words::{CodeBytes, Halfwords, StackWords, bit, bits};
 
 // What a code undoes. Lists of registers are those of list.rt. All payloads have one width, and so one place: the compiler then keeps a code
 // in registers, which it does not with narrower ones.
-#[derive(Drop)]
+#[derive(Clone, Copy)]
 pub enum Undo {
     // SP rises by so many words
     Up(StackWords),
@@ -35,7 +35,7 @@ pub enum Undo {
 }
 
 // What code bytes at a place say.
-#[derive(Drop)]
+#[derive(Clone, Copy)]
 pub enum Meaning {
     Does(Undo),
     End,
@@ -43,14 +43,14 @@ pub enum Meaning {
 }
 
 // A code of a list: what it undoes, and its instruction's size.
-#[derive(Drop)]
+#[derive(Clone, Copy)]
 pub struct Code {
     pub undo: Undo,
     pub size: Halfwords,
 }
 
 // One code taken from code bytes.
-#[derive(Drop)]
+#[derive(Clone, Copy)]
 pub enum Taken {
     // a code, and the index of what follows it
     One(Code, CodeBytes),
@@ -61,7 +61,7 @@ pub enum Taken {
 }
 
 // The same without what a code undoes.
-#[derive(Drop)]
+#[derive(Clone, Copy)]
 pub enum Sized {
     // the size of a code's instruction, and the index of what follows the code
     One(Halfwords, CodeBytes),

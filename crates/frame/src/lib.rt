@@ -22,7 +22,7 @@ ghost use Rattle.frame.specs.AsCoded.InPlace.{came_to, Comes};
 use words::{Place, Refusal, Verdict};
 
 // One frame's answer (RULES 6.1). A refusal has the registers as they came, place leaf and zeros (RULES 6.7).
-#[derive(Drop)]
+#[derive(Clone, Copy)]
 pub struct Unwound {
     pub verdict: Verdict,
     pub regs: Regs,
@@ -33,7 +33,7 @@ pub struct Unwound {
 
 // What a frame came to in place: r0-r12 and d0-d31 are lent and stand as the caller has them, SP and LR are here, and the pc is LR with bit
 // 0 cleared. After a refusal none of them counts.
-#[derive(Drop)]
+#[derive(Clone, Copy)]
 pub struct Came {
     pub verdict: Verdict,
     pub sp: u32,

@@ -11,7 +11,7 @@ use codes::list::{from_r4, lr_if, range};
 use words::{Halfwords, Refusal, StackWords, Verdict, bit, bits};
 
 // The fields of a packed word: Flag, length / 2, Ret, H, Reg, R, L, C, Stack Adjust (RULES 4.1).
-#[derive(Drop)]
+#[derive(Clone, Copy)]
 pub struct Packed {
     pub flag: u32,
     pub length: Halfwords,
@@ -25,7 +25,7 @@ pub struct Packed {
 }
 
 // A packed word; 0 where it is refused.
-#[derive(Drop)]
+#[derive(Clone, Copy)]
 pub struct WordOf {
     pub verdict: Verdict,
     pub word: u32,

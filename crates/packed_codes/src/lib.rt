@@ -14,7 +14,7 @@ use packed::{Packed, allowed, amount, ef, fields, pf, registers};
 use words::{CodeBytes, Refusal, StackWords, Verdict, bits};
 
 // A packed record's code bytes and how long its two lists are (RULES 4.19); all 0 where it is refused.
-#[derive(Drop)]
+#[derive(Clone, Copy)]
 pub struct CodesOf {
     pub verdict: Verdict,
     pub bytes: [u8; 16],
@@ -23,7 +23,7 @@ pub struct CodesOf {
 }
 
 // What a list of registers is beside r4-rX.
-#[derive(Drop)]
+#[derive(Clone, Copy)]
 enum Top {
     Register(u32),
     Other,

@@ -21,7 +21,7 @@ use unwinding::Scope;
 use words::{CodeBytes, Place, Refusal, Verdict};
 
 // An epilogue as its codes make it: it takes the bytes from start up to start + size.
-#[derive(Drop)]
+#[derive(Clone, Copy)]
 pub struct EpilogueSpan {
     pub start: u64,
     pub size: u64,
@@ -30,7 +30,7 @@ pub struct EpilogueSpan {
 }
 
 // The bytes of the instructions of a code list, its end code's with them, or 6.
-#[derive(Drop)]
+#[derive(Clone, Copy)]
 pub enum Measured {
     Bytes(u64),
     Unread(Refusal),
@@ -38,7 +38,7 @@ pub enum Measured {
 
 // Of the epilogues seen so far: below which offset no later one may start, where the last that is not empty ends, whether 7 is not given,
 // and the number of the one that the offset falls into, which is that of none where there is none.
-#[derive(Drop)]
+#[derive(Clone, Copy)]
 pub struct Seen {
     pub floor: u64,
     pub reach: u64,
@@ -47,21 +47,21 @@ pub struct Seen {
 }
 
 // What a pass over the epilogues came to.
-#[derive(Drop)]
+#[derive(Clone, Copy)]
 pub enum Looked {
     All(Seen),
     Bad(Refusal),
 }
 
 // The bytes of a record's prologue, and what a pass over its epilogues came to.
-#[derive(Drop)]
+#[derive(Clone, Copy)]
 pub struct Passed {
     pub prologue: u64,
     pub looked: Looked,
 }
 
 // A place, and the index of the first code that runs there.
-#[derive(Drop)]
+#[derive(Clone, Copy)]
 pub struct Spot {
     pub verdict: Verdict,
     pub place: Place,
@@ -70,7 +70,7 @@ pub struct Spot {
 
 // Where an offset stands in a record that was read: refused, not covered by its function, or at a place with the index of the first code
 // that runs there. The handler's RVA is 0 if there is none.
-#[derive(Drop)]
+#[derive(Clone, Copy)]
 pub struct Placed {
     pub verdict: Verdict,
     pub covers: bool,
@@ -80,7 +80,7 @@ pub struct Placed {
 }
 
 // The same with the record's code bytes: sixteen that were written, or a part of the .xdata.
-#[derive(Drop)]
+#[derive(Clone, Copy)]
 pub struct AnyPlaced {
     pub at: Placed,
     pub written: bool,

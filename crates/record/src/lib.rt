@@ -17,7 +17,7 @@ use words::{CodeBytes, Refusal, Verdict};
 use xdata::Head;
 
 // A record's epilogues: each ends where the function does and has this index, or they are scope words from this offset of the .xdata on.
-#[derive(Drop)]
+#[derive(Clone, Copy)]
 pub enum Scopes {
     Ending(CodeBytes),
     Listed(usize),
@@ -25,7 +25,7 @@ pub enum Scopes {
 
 // A record's shape but for its code bytes: the function's length in bytes, whether it has no prologue, how many epilogues there are and
 // where they stand, and the handler's RVA, 0 if none.
-#[derive(Drop)]
+#[derive(Clone, Copy)]
 pub struct Plan {
     pub span: u32,
     pub fragment: bool,
@@ -35,14 +35,14 @@ pub struct Plan {
 }
 
 // A part of the .xdata.
-#[derive(Drop)]
+#[derive(Clone, Copy)]
 pub struct Part {
     pub start: usize,
     pub len: usize,
 }
 
 // A full record: its plan and where its code bytes are; nothing where it is refused.
-#[derive(Drop)]
+#[derive(Clone, Copy)]
 pub struct FullOf {
     pub verdict: Verdict,
     pub plan: Plan,
@@ -50,7 +50,7 @@ pub struct FullOf {
 }
 
 // A packed record: its plan and its code bytes; nothing where it is refused.
-#[derive(Drop)]
+#[derive(Clone, Copy)]
 pub struct PackedOf {
     pub verdict: Verdict,
     pub plan: Plan,
@@ -58,7 +58,7 @@ pub struct PackedOf {
 }
 
 // A record of either kind: its plan, and its code bytes, which are sixteen that were written or a part of the .xdata.
-#[derive(Drop)]
+#[derive(Clone, Copy)]
 pub struct ReadOf {
     pub verdict: Verdict,
     pub plan: Plan,

@@ -5,14 +5,14 @@
 use words::CodeBytes;
 
 // An epilogue starts at an offset in bytes, or so that it ends where the function does.
-#[derive(Drop)]
+#[derive(Clone, Copy)]
 pub enum Start {
     From(u32),
     Ending,
 }
 
 // An epilogue as a record lists it: the index is that of its first code.
-#[derive(Drop)]
+#[derive(Clone, Copy)]
 pub struct Scope {
     pub start: Start,
     pub condition: u32,

@@ -8,19 +8,19 @@ ghost use Rattle.words.specs.Units.{halfword_bytes as spec_halfword_bytes, stack
 ghost use Rattle.words.specs.Refusals.{number as number_of, verdict_number as spec_verdict_number};
 
 // Two bytes: the unit of lengths of functions, starts of epilogues and sizes of instructions (RULES 1.6).
-#[derive(Drop)]
+#[derive(Clone, Copy)]
 pub struct Halfwords(pub u32);
 
 // The unit of indices into code bytes and of lengths of code lists.
-#[derive(Drop)]
+#[derive(Clone, Copy)]
 pub struct CodeBytes(pub usize);
 
 // Four bytes: the unit of stack amounts.
-#[derive(Drop)]
+#[derive(Clone, Copy)]
 pub struct StackWords(pub u32);
 
 // Refusal R is given exactly as RULES 9.R says.
-#[derive(Drop)]
+#[derive(Clone, Copy)]
 pub enum Refusal {
     // 1: a lent part has a length, an address or an end that will not do (RULES 9.1)
     UnfitInput,
@@ -53,14 +53,14 @@ pub enum Refusal {
 }
 
 // Whether an operation gave its answer.
-#[derive(Drop)]
+#[derive(Clone, Copy)]
 pub enum Verdict {
     Given,
     Refused(Refusal),
 }
 
 // Where a pc stands in its function.
-#[derive(Drop)]
+#[derive(Clone, Copy)]
 pub enum Place {
     Leaf,
     Prologue,
