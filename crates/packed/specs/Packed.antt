@@ -9,7 +9,7 @@ use Rattle.words.specs.declared.StackWords.{StackWords}
 use Rattle.words.specs.declared.Refusal.TheVariants.{Reserved}
 use Rattle.words.specs.Bits.{bits, bit}
 use Rattle.words.specs.Units.{halfwords, halfword_bytes, stack_words}
-use Rattle.words.specs.Answer.{Res, ok, need, if◌then◌else◌, verdict, or_else, ◌>>=◌, ◌>>◌}
+use Rattle.words.specs.Answer.{Res, ok, need, if◌then◌else◌, verdict, or_else, ◌>>◌}
 use Rattle.codes.specs.Table.{range}
 use Rattle.packed.specs.declared.Packed.{Packed}
 use Rattle.packed.specs.declared.WordOf.{WordOf}
