@@ -4,7 +4,7 @@ use Rattle.std.proofs.Math.Option.{Option, none, some}
 use Rattle.words.specs.declared.StackWords.{StackWords}
 use Rattle.words.specs.declared.Refusal.TheVariants.{Reserved}
 use Rattle.words.specs.Units.{code_bytes}
-use Rattle.words.specs.Answer.{Res, ok, refuse, need, if◌then◌else◌, ◌>>=◌, ◌>>◌}
+use Rattle.words.specs.Answer.{Res, ok, refuse, need, if◌then◌else◌, ◌>>◌}
 use Rattle.codes.specs.Table.{range, lr_if}
 use Rattle.words.specs.declared.Verdict.TheVariants.{Given, Refused}
 use Rattle.packed.specs.Packed.{fields, allowed, integers, amount, PF, EF}
