@@ -13,7 +13,7 @@ use words::{Halfwords, bit, bits};
 
 // What an instruction does. Registers go by number, 13 for SP, 14 for LR, 15 for PC; a list of them has 16 bits; amounts are bytes, of any
 // number of words.
-#[derive(Drop)]
+#[derive(Clone, Copy)]
 pub enum Action {
     Push(u32),
     Pop(u32),
