@@ -1,5 +1,5 @@
 -- The instruction that a code stands for, in a prologue (RULES 13.5) and in an epilogue (RULES 13.6).
-use Rattle.std.specs.Prelude.{ℕ, ◌+◌, ◌^◌, ◌<◌, Bool, true, false, ◌&&◌, ◌||◌, eqb}
+use Rattle.std.specs.Prelude.{ℕ, ◌+◌, ◌^◌, ◌<◌, Bool, true, ◌&&◌, ◌||◌, eqb}
 use Rattle.words.specs.Bits.{bit}
 use Rattle.words.specs.Units.{halfwords, stack_bytes}
 use Rattle.words.specs.Answer.{if◌then◌else◌}
@@ -7,7 +7,7 @@ use Rattle.codes.specs.declared.Code.{Code}
 use Rattle.codes.specs.declared.Undo.{Undo}
 use Rattle.codes.specs.declared.Undo.TheVariants as U
 use Rattle.thumb.specs.declared.Action.{Action}
-use Rattle.thumb.specs.declared.Action.TheVariants.{Push, Pop, Vpush, Vpop, SubSp, AddSp, Mov, Store, Load, Bx, Branch, Other}
+use Rattle.thumb.specs.declared.Action.TheVariants.{Push, Pop, Vpush, Vpop, SubSp, AddSp, Mov, Store, Load, Bx, Branch}
 use Rattle.thumb.specs.declared.Instruction.{Instruction}
 use Rattle.expected.specs.Same.{same}
 use Rattle.expected.specs.declared.Acts.{Acts}

@@ -140,7 +140,7 @@ fn lowering(first: u8, a: Action) -> Acts
 
 // What the instruction of a code with this first byte does in a prologue.
 fn acts_before(first: u8, u: Undo) -> Acts
-    ensures { result ≡ E.spec_acts_before first u }
+    ensures { result ≡ E.acts_before first u }
 {
     match u {
         Undo::Up(n) => lowering(first, Action::SubSp(stack_bytes(n))),
@@ -155,7 +155,7 @@ fn acts_before(first: u8, u: Undo) -> Acts
 // A list with PC in LR's place.
 fn with_pc(list: u32) -> u32
     requires { list < 2 ^ 15 }
-    ensures { result ≡ E.spec_with_pc list }
+    ensures { result ≡ E.with_pc list }
 {
     if bit(list, 14) { list + 16384 } else { list }
 }
@@ -163,7 +163,7 @@ fn with_pc(list: u32) -> u32
 // The same where LR stands for PC.
 fn list_or_pc(last: bool, list: u32) -> u32
     requires { list < 2 ^ 15 }
-    ensures { result ≡ E.spec_list_or_pc last list }
+    ensures { result ≡ E.list_or_pc last list }
 {
     if last { with_pc(list) } else { list }
 }
@@ -171,7 +171,7 @@ fn list_or_pc(last: bool, list: u32) -> u32
 // What the instruction of a code does in an epilogue, the last before FF or not.
 fn acts_after(last: bool, u: Undo) -> Acts
     requires { E.Listed u }
-    ensures { result ≡ E.spec_acts_after last u }
+    ensures { result ≡ E.acts_after last u }
 {
     match u {
         Undo::Up(n) => Acts::This(Action::AddSp(stack_bytes(n))),

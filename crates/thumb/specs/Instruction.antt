@@ -4,7 +4,6 @@ use Rattle.words.specs.Units.{halfwords}
 use Rattle.words.specs.Answer.{if◌then◌else◌}
 use Rattle.lent.specs.Little.{word16}
 use Rattle.thumb.specs.Rows.{rows16, rows32, action_in}
-use Rattle.thumb.specs.declared.Action.{Action}
 use Rattle.thumb.specs.declared.Action.TheVariants.{Other}
 use Rattle.thumb.specs.declared.Instruction.{Instruction}
 

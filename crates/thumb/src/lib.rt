@@ -13,7 +13,7 @@ use words::{Halfwords, bit, bits};
 
 // What an instruction does. Registers go by number, 13 for SP, 14 for LR, 15 for PC; a list of them has 16 bits; amounts are bytes, of any
 // number of words.
-#[derive(Drop)]
+#[derive(Clone, Copy)]
 pub enum Action {
     Push(u32),
     Pop(u32),
@@ -175,7 +175,7 @@ fn add_modified(w: u32) -> Action
 
 // D:Vd, the first of the d registers.
 fn first_d(w: u32) -> u32
-    ensures { (result ≡ R.spec_first_d w) × (result < 32) }
+    ensures { (result ≡ R.first_d w) × (result < 32) }
 {
     bits(w, 12, 4) + 16 * bits(w, 22, 1)
 }
@@ -183,7 +183,7 @@ fn first_d(w: u32) -> u32
 // Whether there are n d registers from number s up, 1 to 16.
 fn some_d(s: u32, n: u32) -> bool
     requires { (s < 32) × (n < 128) }
-    ensures { result ≡ R.spec_some_d s n }
+    ensures { result ≡ R.some_d s n }
 {
     1 <= n && n <= 16 && s + n <= 32
 }
