@@ -26,7 +26,7 @@ pub enum Found {
 
 // What was found to hold of tables before a record is looked for: refusal 1 is not given for any part (here: for the .pdata's length), and
 // refusal 3 not for its starts. A walk asks it once.
-#[derive(Drop)]
+#[derive(Clone, Copy)]
 pub struct Checked {
     pub fit: bool,
     pub sorted: bool,
