@@ -15,7 +15,7 @@ use words::{CodeBytes, Halfwords, Refusal, Verdict, bit, bits};
 
 // The head of an .xdata record: its first word, its own bytes (4, or 8 with the extension word), and the count and the code words from
 // the one or the other.
-#[derive(Drop)]
+#[derive(Clone, Copy)]
 pub struct Head {
     pub word: u32,
     pub bytes: u32,
