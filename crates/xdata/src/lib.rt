@@ -24,14 +24,14 @@ pub struct Head {
 }
 
 // An .xdata record's size in bytes; 0 where it is refused.
-#[derive(Drop)]
+#[derive(Clone, Copy)]
 pub struct SizeOf {
     pub verdict: Verdict,
     pub bytes: u32,
 }
 
 // A head that was read; all 0 where it is refused.
-#[derive(Drop)]
+#[derive(Clone, Copy)]
 pub struct HeadRead {
     pub verdict: Verdict,
     pub head: Head,

@@ -2,8 +2,8 @@
 use mathlib.Core.Bool.{true}
 use mathlib.Core.Path.{◌≡◌, sym, ap, ◌∙◌}
 use Rattle.lent.specs.Lent.{lent, holds}
-use Rattle.xdata.specs.AsCoded.Heads.{head_read}
-use Rattle.xdata.proofs.Heads.{long-outside, long-reserved, long-given}
+use Rattle.xdata.specs.AsCoded.Heads.{head_read, whole_record}
+use Rattle.xdata.proofs.Heads.{long_of, long-outside, long-reserved, long-given}
 use Rattle.xdata.proofs.long_head.Goals as goal
 
 pub returns-then-not-holds : goal.returns-then-not-holds
@@ -26,5 +26,6 @@ returns c =
     let x = lent a.rva a.xdata.now in
     let here : holds x a.at 8 ≡ true = sym c.holds.ensures ∙ c.if-not-holds.false in
     let z = rw c.bits.ensures.0 at c.if-bits-ne0.false in
-    rw (c.bits-2.ensures.0, c.bits-3.ensures.0) at c.whole_record.ensures
-    ∙ ap head_read (sym (long-given x _ _ _ c.word_at-v.ensures here z))
+    ◌∙◌ {b = head_read (whole_record x a.at (long_of a.word c.word_at-v.result))}
+    (rw (c.bits-2.ensures.0, c.bits-3.ensures.0) at c.whole_record.ensures)
+    (ap head_read (sym (long-given x _ _ _ c.word_at-v.ensures here z)))
