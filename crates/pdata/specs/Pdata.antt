@@ -5,7 +5,7 @@ use Rattle.std.proofs.Math.Option.{Option, none, some}
 use Rattle.words.specs.Bits.{even}
 use Rattle.lent.specs.Little.{word32}
 use Rattle.words.specs.declared.Refusal.TheVariants.{UnfitInput, PcBelowBase, StartsNotAscending}
-use Rattle.words.specs.Answer.{Res, ok, need, if◌then◌else◌, either, maybe, ◌>>=◌, ◌>>◌}
+use Rattle.words.specs.Answer.{Res, ok, need, if◌then◌else◌, either, maybe, ◌>>◌}
 use Rattle.unwinding.specs.View.{ascending}
 use Rattle.pdata.specs.declared.Entry.{Entry}
 use Rattle.pdata.specs.declared.Found.{Found}

@@ -9,7 +9,7 @@ ghost use Rattle.pdata.specs.Pdata.{entries, entry_at, starts, last_up_to, find 
 use words::Refusal;
 
 // A .pdata record: its number in the table, its start RVA with bit 0 cleared, and its word 1.
-#[derive(Drop)]
+#[derive(Clone, Copy)]
 pub struct Entry {
     pub number: usize,
     pub start: u32,
@@ -17,7 +17,7 @@ pub struct Entry {
 }
 
 // What finding gives (RULES 2.5).
-#[derive(Drop)]
+#[derive(Clone, Copy)]
 pub enum Found {
     Record(Entry),
     Nothing,
@@ -26,7 +26,7 @@ pub enum Found {
 
 // What was found to hold of tables before a record is looked for: refusal 1 is not given for any part (here: for the .pdata's length), and
 // refusal 3 not for its starts. A walk asks it once.
-#[derive(Drop)]
+#[derive(Clone, Copy)]
 pub struct Checked {
     pub fit: bool,
     pub sorted: bool,

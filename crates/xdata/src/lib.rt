@@ -15,7 +15,7 @@ use words::{CodeBytes, Halfwords, Refusal, Verdict, bit, bits};
 
 // The head of an .xdata record: its first word, its own bytes (4, or 8 with the extension word), and the count and the code words from
 // the one or the other.
-#[derive(Drop)]
+#[derive(Clone, Copy)]
 pub struct Head {
     pub word: u32,
     pub bytes: u32,
@@ -24,14 +24,14 @@ pub struct Head {
 }
 
 // An .xdata record's size in bytes; 0 where it is refused.
-#[derive(Drop)]
+#[derive(Clone, Copy)]
 pub struct SizeOf {
     pub verdict: Verdict,
     pub bytes: u32,
 }
 
 // A head that was read; all 0 where it is refused.
-#[derive(Drop)]
+#[derive(Clone, Copy)]
 pub struct HeadRead {
     pub verdict: Verdict,
     pub head: Head,
