@@ -1,7 +1,7 @@
 -- The FIT file: a mark and four words, then a function's .xdata and its code, which end with the file (RULES 13.11).
 use Rattle.std.specs.Prelude.{ℕ, ◌+◌, ◌*◌, List, [], ◌∷◌, ◌&&◌, length, take, leb, eqb}
 use Rattle.words.specs.declared.Refusal.TheVariants.{UnfitReport}
-use Rattle.words.specs.Answer.{Res, ok, ◌>>=◌, ◌>>◌, need}
+use Rattle.words.specs.Answer.{Res, ok, ◌>>◌, need}
 use Rattle.lent.specs.Little.{word32}
 use Rattle.lent.specs.Lent.{Lent, lent}
 use Rattle.lent.specs.Parts.{same, part}

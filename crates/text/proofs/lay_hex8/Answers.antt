@@ -4,13 +4,11 @@ use Prim.Native.Nat.{ℕ, ◌+◌, ◌/◌}
 use mathlib.Core.Path.{◌≡◌, sym, ap, ◌∙◌}
 use mathlib.Core.List.{List, []}
 use native.Mathlib.Omega.{arith}
-use borrow.Author.Rules.{rules}
 use Rattle.text.specs.Text.{digits, hex8}
 use Rattle.text.specs.Overlay.{overlay}
 use Rattle.text.proofs.Overlaid.{overlay-append, fitted}
 use Rattle.text.proofs.Numbers.{hex8-length}
-use Rattle.text.proofs.lay_hex8.Statement.{statement}
-use Rattle.text.proofs.lay_hex8.Tie as tie
+use Rattle.text.proofs.lay_hex8.Goals as goal
 
 -- four digits after four are eight
 halves :
@@ -19,19 +17,8 @@ halves :
 unfolding digits
 halves b i v = sym (overlay-append b i (digits 16 4 (v / 16 / 16 / 16 / 16) []) (digits 16 4 v []))
 
-returns : tie.Need-returns
+pub returns : goal.returns
 returns c =
-    let a = c.before.before.before.before.before.before.before.before.before.args in
+    let a = c.args in
     fitted (omega (arith, hex8-length a.value)) (omega arith) (omega arith)
-    (c.before.before.lay-hex42.ensures ∙ ap (λ x. overlay x (a.at + 4) (digits 16 4 a.value [])) c.before.before.before.before.before.before.lay-hex4.ensures ∙ halves a.out.now a.at a.value)
-
-pub lay-hex8-spec : {M : Type 1} → statement M
-lay-hex8-spec =
-    tie.close
-    (tie.spec
-    (λ c κs. search rules)
-    (λ c. search rules)
-    (λ c κs. search rules)
-    (λ c. search rules)
-    (λ c. search rules)
-    returns)
+    (c.lay_hex4-2.ensures ∙ ap (λ x. overlay x (a.at + 4) (digits 16 4 a.value [])) c.lay_hex4.ensures ∙ halves a.out.now a.at a.value)

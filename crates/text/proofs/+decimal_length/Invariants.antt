@@ -1,0 +1,6 @@
+-- The measure is the limit.
+-- Assumes nothing.
+use Rattle.text.proofs.+decimal_length.Given as goal
+
+abbrev pub decreases-decimal_length : goal.decreases-decimal_length
+decreases-decimal_length l = l.limit
