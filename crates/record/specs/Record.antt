@@ -4,7 +4,7 @@ use Rattle.words.specs.Bits.{bits}
 use Rattle.lent.specs.Lent.{Lent}
 use Rattle.words.specs.Units.{code_bytes, code_word_bytes}
 use Rattle.words.specs.declared.CodeBytes.{CodeBytes}
-use Rattle.words.specs.Answer.{Res, ok, if◌then◌else◌, ◌>>=◌, ◌>>◌}
+use Rattle.words.specs.Answer.{Res, ok, if◌then◌else◌, ◌>>=◌}
 use Rattle.unwinding.specs.Shape.{Shape}
 use Rattle.unwinding.specs.declared.Scope.{Scope}
 use Rattle.codes.specs.Condition.{always}

@@ -8,7 +8,7 @@ use Rattle.words.specs.Units.{code_bytes, code_word_bytes}
 use Rattle.words.specs.declared.CodeBytes.{CodeBytes}
 use Rattle.words.specs.declared.Verdict.{Verdict}
 use Rattle.words.specs.declared.Verdict.TheVariants.{Given, Refused}
-use Rattle.words.specs.Answer.{Res, ok, refuse, if◌then◌else◌, ◌>>=◌, ◌>>◌}
+use Rattle.words.specs.Answer.{Res, ok, refuse, if◌then◌else◌, ◌>>=◌}
 use Rattle.unwinding.specs.Shape.{Shape}
 use Rattle.unwinding.specs.declared.Scope.{Scope}
 use Rattle.xdata.specs.Xdata.{E, F, scope_count, codes_offset, span_of, handler_at, head_at}
