@@ -5,11 +5,11 @@ use mathlib.Core.Path.{◌≡◌, refl, sym, ap, ◌∙◌}
 use mathlib.Core.List.{List, [], ◌∷◌, ◌++◌}
 use mathlib.Core.Bool.{Bool, true, false, ◌||◌}
 use lib.Dec.{eqb}
-use Rattle.words.specs.Answer.{Res, ok, refuse, if◌then◌else◌}
+use Rattle.words.specs.Answer.{ok, if◌then◌else◌}
 use Rattle.unwinding.specs.CodeList.{total}
-use Rattle.expected.specs.Expected.{before, after, ending, meets}
-use Rattle.comparing.specs.Items.{Coded, size_of, Role, opens, closes, leaves, Item, fits, compared, is_last, item, prologue_items, epilogue_items}
-use Rattle.comparing.specs.AsCoded.Passes.{last_of, or_else, test, prologue_pass, end_pass, epilogue_pass}
+use Rattle.expected.specs.Expected.{before, after, ending}
+use Rattle.comparing.specs.Items.{Coded, size_of, opens, leaves, Item, fits, compared, is_last, item, prologue_items, epilogue_items}
+use Rattle.comparing.specs.AsCoded.Passes.{last_of, or_else, test, prologue_pass, epilogue_pass}
 use Rattle.comparing.specs.declared.Compared.{Compared}
 use Rattle.comparing.specs.declared.Compared.TheVariants.{Same, Differs}
 

@@ -2,16 +2,15 @@
 -- Assumes nothing.
 use Prim.Native.Nat.{ℕ, zero, suc, ◌+◌, ◌*◌, ◌≤◌}
 use mathlib.Core.Path.{◌≡◌, refl, sym, ap, ◌∙◌}
-use mathlib.Core.List.{List, [], ◌∷◌}
+use mathlib.Core.List.{List, []}
 use mathlib.Core.Bool.{Bool, true, false, not}
 use lib.Dec.{eqb}
 use lib.ListN.{length, get_or, drop, drop_of_length-le}
 use native.Mathlib.Omega.{arith}
 use borrow.Author.Tests.{ne_eqb}
-use Rattle.words.specs.Units.{code_bytes, halfword_bytes}
+use Rattle.words.specs.Units.{code_bytes}
 use Rattle.words.specs.declared.CodeBytes.{CodeBytes}
-use Rattle.words.specs.declared.Halfwords.{Halfwords}
-use Rattle.words.specs.Answer.{Res, ok, if◌then◌else◌}
+use Rattle.words.specs.Answer.{Res, if◌then◌else◌}
 use Rattle.unwinding.specs.CodeList.{total}
 use Rattle.unwinding.specs.Taking.{Scan, nothing}
 use Rattle.codes.specs.Code.{size, take_from, take_at, seen}
@@ -30,8 +29,8 @@ use Rattle.expected.specs.Expected.{Listed, before, after}
 use Rattle.comparing.specs.Items.{Coded, size_of, scan_coded}
 use Rattle.comparing.specs.AsCoded.Passes.{last_of, test, prologue_pass, end_pass, epilogue_pass}
 use Rattle.comparing.specs.declared.Compared.{Compared}
-use Rattle.comparing.specs.declared.Compared.TheVariants.{Same, Differs}
-use Rattle.comparing.proofs.Scanning.{coded, scan-one, scan-last, scan-bad}
+use Rattle.comparing.specs.declared.Compared.TheVariants.{Differs}
+use Rattle.comparing.proofs.Scanning.{scan-one, scan-last, scan-bad}
 
 -- a test whose opposite was made
 pub not-false : (b : Bool) → not b ≡ false → b ≡ true

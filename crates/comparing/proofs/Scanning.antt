@@ -9,13 +9,12 @@ use native.Mathlib.Omega.{arith}
 use Rattle.words.specs.Units.{code_bytes, halfword_bytes}
 use Rattle.words.specs.declared.CodeBytes.{CodeBytes}
 use Rattle.words.specs.declared.Halfwords.{Halfwords}
-use Rattle.words.specs.declared.Refusal.TheVariants.{BadCodes}
-use Rattle.words.specs.Answer.{Res, ok, refuse}
+use Rattle.words.specs.Answer.{ok}
 use Rattle.unwinding.specs.CodeList.{total}
 use Rattle.unwinding.specs.Shape.{Shape}
-use Rattle.unwinding.specs.Taking.{Taken as AnyTaken, one, last, bad, Scan, nothing, follow}
+use Rattle.unwinding.specs.Taking.{Taken as AnyTaken, one, last, bad, nothing, follow}
 use Rattle.unwinding.specs.View.{view}
-use Rattle.unwinding.proofs.Scanning.{Takes, Present, scan_step}
+use Rattle.unwinding.proofs.Scanning.{Takes, scan_step}
 use Rattle.unwinding.proofs.Mapping.{mapped, taken_of, scan_of, codes_of, view_of, scan-mapped, codes-mapped, total-mapped, view-mapped}
 use Rattle.codes.specs.Code.{size, take_at, seen, taking, bytes_of, scan, codes_at}
 use Rattle.codes.specs.declared.Code.{Code}

@@ -15,7 +15,7 @@ use expected::Expected;
 use words::{CodeBytes, Halfwords, halfword_bytes};
 
 // The first instruction that is not the expected one, by its offset.
-#[derive(Drop)]
+#[derive(Clone, Copy)]
 pub enum Compared {
     Same,
     Differs(u64),

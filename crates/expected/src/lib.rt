@@ -12,7 +12,7 @@ use thumb::{Action, Instruction};
 use words::{Halfwords, bit, stack_bytes};
 
 // What the instruction must do.
-#[derive(Drop)]
+#[derive(Clone, Copy)]
 pub enum Acts {
     // whatever it does: a nop's
     Any,
@@ -23,7 +23,7 @@ pub enum Acts {
 }
 
 // The instruction that is expected: what it must do, and its size.
-#[derive(Drop)]
+#[derive(Clone, Copy)]
 pub struct Expected {
     pub acts: Acts,
     pub size: Halfwords,

@@ -37,7 +37,7 @@ pub enum Action {
 }
 
 // What an instruction does, and its size.
-#[derive(Drop)]
+#[derive(Clone, Copy)]
 pub struct Instruction {
     pub action: Action,
     pub size: Halfwords,
