@@ -52,6 +52,11 @@ def name_in_rt(name, clashes):
     return "spec_" + snake(name) if name in clashes else snake(name)
 
 
+def named(text, m, clashes):
+    # a name that stands behind its module's is in no danger
+    return snake(m.group(0)) if text[: m.start()].endswith(".") else name_in_rt(m.group(0), clashes)
+
+
 def brought_in(items, clashes):
     out = []
     for item in (i.strip() for i in items.split(",")):
@@ -73,7 +78,7 @@ def rt(text, clashes):
         return f"\0{len(uses) - 1}\0"
 
     text = USE.sub(keep, text)
-    text = by_line(text, "//", lambda t: TOKEN.sub(lambda m: name_in_rt(m.group(0), clashes), t))
+    text = by_line(text, "//", lambda t: TOKEN.sub(lambda m: named(t, m, clashes), t))
     return re.sub("\0(\\d+)\0", lambda m: uses[int(m.group(1))], text)
 
 
