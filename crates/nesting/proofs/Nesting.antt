@@ -98,6 +98,7 @@ between r u s (past a b c) h k l =
 -- ---- what an outline has
 among-left : (t : Region) (a b : List Region) → Among t a → Among t (a ++ b)
 unfolding Among
+among-left t [] b h = elim h [ ]
 among-left t (r ∷ a) b (inl e) = inl e
 among-left t (r ∷ a) b (inr h) = inr (among-left t a b h)
 

@@ -10,7 +10,7 @@ ghost use Rattle.regions.specs.AsCoded.Table.{no_table as spec_no_table, sound_t
 use words::{Refusal, Verdict};
 
 // A guarded region: its number in the table, from 0, and its four words.
-#[derive(Drop)]
+#[derive(Clone, Copy)]
 pub struct Region {
     pub number: usize,
     pub begin: u32,
@@ -21,21 +21,21 @@ pub struct Region {
 
 // Why a record's regions are refused: the record is, the table is not all lent or has too many (15), or a region is not upright or two cross
 // (16).
-#[derive(Drop)]
+#[derive(Clone, Copy)]
 pub enum RegionRefusal {
     Record(Refusal),
     TableOutside,
     Crossed,
 }
 
-#[derive(Drop)]
+#[derive(Clone, Copy)]
 pub enum RegionVerdict {
     Given,
     Refused(RegionRefusal),
 }
 
 // Where the first region begins in the .xdata, and how many there are; zeros where they are refused.
-#[derive(Drop)]
+#[derive(Clone, Copy)]
 pub struct TableOf {
     pub verdict: RegionVerdict,
     pub first: usize,
