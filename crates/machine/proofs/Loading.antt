@@ -2,7 +2,7 @@
 -- Assumes nothing.
 use Prim.Native.Nat.{ℕ, ◌+◌, ◌-◌, ◌≤◌}
 use mathlib.Core.Path.{◌≡◌, refl, ap, ◌∙◌}
-use mathlib.Core.Bool.{Bool, true, false, ◌&&◌}
+use mathlib.Core.Bool.{Bool, true, false}
 use mathlib.Core.List.{List}
 use lib.Dec.{leb}
 use lib.ListN.{length}
@@ -12,7 +12,7 @@ use Rattle.words.proofs.Tests.{both}
 use Rattle.lent.specs.Lent.{Lent, lent, end, holds, word_at}
 use Rattle.lent.specs.Little.{word32}
 use Rattle.words.specs.declared.Refusal.TheVariants.{BadStack}
-use Rattle.words.specs.Answer.{ok, refuse, need, ◌>>◌}
+use Rattle.words.specs.Answer.{ok, refuse}
 use Rattle.machine.specs.Step.{load}
 
 -- bytes that are lent, by where they begin and end

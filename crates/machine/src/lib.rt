@@ -17,7 +17,7 @@ use codes::{Code, Taken, Undo};
 use words::{CodeBytes, Refusal, StackWords, Verdict};
 
 // The registers of RULES 1.1.
-#[derive(Drop)]
+#[derive(Clone, Copy)]
 pub struct Regs {
     pub r: [u32; 13],
     pub sp: u32,
@@ -27,14 +27,14 @@ pub struct Regs {
 }
 
 // A word of the stack.
-#[derive(Drop)]
+#[derive(Clone, Copy)]
 pub enum Loaded {
     Word(u32),
     Refused(Refusal),
 }
 
 // Two words of the stack, the lower first.
-#[derive(Drop)]
+#[derive(Clone, Copy)]
 enum LoadedTwo {
     Words(u32, u32),
     Refused(Refusal),
@@ -44,7 +44,7 @@ enum LoadedTwo {
 // none of them counts.
 
 // What undoing came to before SP is looked at, which may be past 2^32.
-#[derive(Drop)]
+#[derive(Clone, Copy)]
 struct Undone {
     verdict: Verdict,
     sp: u64,
@@ -52,7 +52,7 @@ struct Undone {
 }
 
 // What a code came to, where SP stands.
-#[derive(Drop)]
+#[derive(Clone, Copy)]
 struct Stood {
     verdict: Verdict,
     sp: u32,
@@ -60,7 +60,7 @@ struct Stood {
 }
 
 // What the codes from an index on came to, and how many were run.
-#[derive(Drop)]
+#[derive(Clone, Copy)]
 pub struct Ended {
     pub verdict: Verdict,
     pub sp: u32,

@@ -2,22 +2,13 @@
 -- the offset is behind their words. The measure is how many are left.
 -- Assumes nothing.
 use Prim.Native.Nat.{ℕ, ◌+◌, ◌-◌, ◌*◌, ◌≤◌}
-use mathlib.Core.Logic.{⊎_elim}
-use mathlib.Core.Path.{◌≡◌, sym, ap, ◌∙◌}
-use mathlib.Core.Bool.{true}
+use mathlib.Core.Path.{◌≡◌}
 use mathlib.Core.List.{List}
-use lib.ListN.{length}
-use native.Mathlib.Numerals.{add-one}
-use native.Mathlib.Omega.{arith}
-use borrow.Author.Rules.{rules}
-use Rattle.lent.specs.Lent.{Lent, lent}
+use Rattle.lent.specs.Lent.{lent}
 use Rattle.words.specs.Answer.{ok}
 use Rattle.machine.specs.Step.{pop}
 use Rattle.machine.specs.AsCoded.Answers.{regs}
 use Rattle.machine.specs.AsCoded.Listed.{words_listed}
-use Rattle.machine.proofs.Loading.{held, load_at}
-use Rattle.machine.proofs.Listed.{words-none, words-with, words-without, words-most, words-within}
-use Rattle.machine.proofs.Popping.{goes_on, listed, listed-word, listed-not, pop-none, pop_next}
 use Rattle.machine.proofs.pop_in.Given as goal
 
 abbrev pub invariant-loop-x : goal.invariant-loop-x

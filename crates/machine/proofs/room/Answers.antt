@@ -1,10 +1,9 @@
 -- `room` meets its contract: a list has at most 15 words.
 -- Assumes nothing.
 use Prim.Native.Nat.{◌*◌}
-use mathlib.Core.Path.{sym, ap, ◌∙◌}
+use mathlib.Core.Path.{sym, ◌∙◌}
 use native.Mathlib.Omega.{arith}
-use borrow.Author.Rules.{rules}
-use Rattle.lent.specs.Lent.{lent, holds}
+use Rattle.lent.specs.Lent.{lent}
 use Rattle.machine.specs.AsCoded.Listed.{words_listed}
 use Rattle.machine.proofs.Loading.{held, holding}
 use Rattle.machine.proofs.Listed.{words-most}
@@ -20,8 +19,3 @@ returns-then-holds c =
     let n = 4 * words_listed a.list 15 in
     let h = held k a.sp 60 (sym c.holds.ensures ∙ c.if-holds.true) in
     c.if-holds.true ∙ sym (holding k a.sp n h.0 (omega (arith, h.1, words-most a.list 15)))
-
-pub returns-else-holds : goal.returns-else-holds
-returns-else-holds c =
-    let a = c.args in
-    c.holds-else-holds.ensures ∙ ap (λ n. holds (lent a.base a.stack.now) a.sp (4 * n)) c.words_listed.ensures

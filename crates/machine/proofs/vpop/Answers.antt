@@ -1,33 +1,16 @@
 -- `vpop` meets its contract. The loop's invariant: the registers and SP are what the definition's vpop of the numbers passed gives. The
 -- measure is how many are left. A turn's refusal is the whole vpop's.
 -- Assumes nothing.
-use Prim.Native.Nat.{ℕ, ◌+◌, ◌-◌, ◌≤◌}
+use Prim.Native.Nat.{◌+◌, ◌-◌}
 use mathlib.Core.Path.{◌≡◌, sym, ap, ◌∙◌}
-use mathlib.Core.List.{List}
 use native.Mathlib.Omega.{arith}
-use borrow.Author.Rules.{rules}
 use Rattle.lent.specs.Lent.{lent}
-use Rattle.words.specs.Answer.{ok}
-use Rattle.machine.specs.Step.{load, pop_d, vpop}
+use Rattle.machine.specs.Step.{pop_d, vpop}
 use Rattle.machine.specs.AsCoded.Answers.{regs}
 use Rattle.machine.proofs.Answers.{two-words}
 use Rattle.machine.proofs.Loading.{load_inside}
 use Rattle.machine.proofs.Popping.{goes_on, stops, vpop-none, vpop-next, d-words, d-refused}
 use Rattle.machine.proofs.vpop.Goals as goal
-use Rattle.machine.proofs.vpop.Goals.{After-set_d}
-
--- the two words of a turn
-loaded :
-    (c : After-set_d)
-    → (let w = c.before.before.before in
-    let l = w.loop-x in
-    let a = w.args in
-    let k = lent a.base a.stack.now in
-    (load k l.at ≡ ok w.in-Words.low) × (load k (l.at + 4) ≡ ok w.in-Words.high))
-loaded c = let w = c.before.before.before in two-words _ _ _ _ (sym w.load_two.ensures ∙ w.in-Words.is)
-
-pub overflow_add-x-end : goal.overflow_add-x-end
-overflow_add-x-end c = omega arith
 
 pub loop-x-init : goal.loop-x-init
 loop-x-init c =
@@ -37,32 +20,26 @@ loop-x-init c =
 
 pub returns-in-Refused : goal.returns-in-Refused
 returns-in-Refused c r pc =
-    let t = c.before.before.before in
-    let l = t.loop-x in
-    let a = t.args in
+    let l = c.loop-x in
+    let a = c.args in
     let k = lent a.base a.stack.now in
     let g = regs r a.sp a.lr pc a.d.now in
     let here : a.s + (l.x - a.s) ≡ l.x = omega arith in
     let h = regs r l.at a.lr pc l.d in
-    let bad = d-refused k l.x r l.at a.lr pc l.d _ (sym t.load_two.ensures ∙ c.in-Refused.is) in
+    let bad = d-refused k l.x r l.at a.lr pc l.d _ (sym c.load_two.ensures ∙ c.in-Refused.is) in
     sym
     (stops (λ n. vpop k a.s n g) (λ n y. pop_d k (a.s + n) y) (vpop-next k a.s g) (l.x - a.s) (a.e + 1 - a.s) h _ (l.invariant.2 r pc)
     (ap (λ y. pop_d k y h) here ∙ bad) (omega arith))
 
 pub overflow_add-at : goal.overflow_add-at
-overflow_add-at c = omega (arith, load_inside _ _ _ (loaded c).1)
-
-pub overflow_step-x-in-loop-x : goal.overflow_step-x-in-loop-x
-overflow_step-x-in-loop-x c = omega arith
-
-pub loop-x-smaller : goal.loop-x-smaller
-loop-x-smaller c = omega arith
+overflow_add-at c =
+    let words = two-words _ _ _ _ (sym c.load_two.ensures ∙ c.in-Words.is) in
+    omega (arith, load_inside _ _ _ words.1)
 
 pub loop-x-preserved : goal.loop-x-preserved
 loop-x-preserved c =
-    let t = c.before.before.before.before.before in
-    let l = t.loop-x in
-    let a = t.args in
+    let l = c.loop-x in
+    let a = c.args in
     let k = lent a.base a.stack.now in
     let here : a.s + (l.x - a.s) ≡ l.x = omega arith in
     let on : l.x - a.s + 1 ≡ l.x + 1 - a.s = omega arith in (
@@ -70,15 +47,9 @@ loop-x-preserved c =
       omega arith,
       λ r pc. (let g = regs r a.sp a.lr pc a.d.now in
           let h = regs r l.at a.lr pc l.d in
-          let good = d-words k l.x r l.at a.lr pc l.d _ _ _ (loaded c).0 (loaded c).1 c.set_d.ensures in
+          let words = two-words _ _ _ _ (sym c.load_two.ensures ∙ c.in-Words.is) in
+          let good = d-words k l.x r l.at a.lr pc l.d _ _ _ words.0 words.1 c.set_d.ensures in
           rw on at
           (goes_on (λ n. vpop k a.s n g) (λ n y. pop_d k (a.s + n) y) (vpop-next k a.s g) (l.x - a.s) h _ (l.invariant.2 r pc)
           (ap (λ y. pop_d k y h) here ∙ good))),
     )
-
-pub returns : goal.returns
-returns c r pc =
-    let l = c.loop-x in
-    let a = c.args in
-    let all : l.x - a.s ≡ a.e + 1 - a.s = omega arith in
-    sym (rw all at (l.invariant.2 r pc))

@@ -2,17 +2,12 @@
 -- measure is how many are left. A turn's refusal is the whole vpop's.
 -- Assumes nothing.
 use Prim.Native.Nat.{ℕ, ◌+◌, ◌-◌, ◌≤◌}
-use mathlib.Core.Path.{◌≡◌, sym, ap, ◌∙◌}
+use mathlib.Core.Path.{◌≡◌}
 use mathlib.Core.List.{List}
-use native.Mathlib.Omega.{arith}
-use borrow.Author.Rules.{rules}
 use Rattle.lent.specs.Lent.{lent}
 use Rattle.words.specs.Answer.{ok}
-use Rattle.machine.specs.Step.{load, pop_d, vpop}
+use Rattle.machine.specs.Step.{vpop}
 use Rattle.machine.specs.AsCoded.Answers.{regs}
-use Rattle.machine.proofs.Answers.{two-words}
-use Rattle.machine.proofs.Loading.{load_inside}
-use Rattle.machine.proofs.Popping.{goes_on, stops, vpop-none, vpop-next, d-words, d-refused}
 use Rattle.machine.proofs.vpop.Given as goal
 
 abbrev pub invariant-loop-x : goal.invariant-loop-x

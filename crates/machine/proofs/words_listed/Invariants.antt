@@ -1,12 +1,8 @@
 -- `words_listed` meets its contract. The loop's invariant: n is the words of the numbers passed. The measure is how many are left.
 -- Assumes nothing.
-use Prim.Native.Nat.{◌-◌, ◌+◌, ◌≤◌}
-use mathlib.Core.Path.{◌≡◌, sym, ap, ◌∙◌}
-use mathlib.Core.Logic.{⊎_elim}
-use native.Mathlib.Numerals.{add-one}
-use native.Mathlib.Omega.{arith}
+use Prim.Native.Nat.{◌-◌, ◌≤◌}
+use mathlib.Core.Path.{◌≡◌}
 use Rattle.machine.specs.AsCoded.Listed.{words_listed}
-use Rattle.machine.proofs.Listed.{words-none, words-with, words-without, words-most}
 use Rattle.machine.proofs.words_listed.Given as goal
 
 abbrev pub invariant-loop-x : goal.invariant-loop-x
