@@ -86,6 +86,7 @@ shape-small x w sh h = go (eqb (bits 0 2 w) 0) h
 
 -- so the first list that cannot be read tells one of few bytes
 lists-limit : (s is : List ℕ) (j : ℕ) → length s ≤ 1020 → All Narrow is → FirstOf s is j → j ≤ 65535
+lists-limit s [] j l a x' = elim x' [ ]
 lists-limit s (i ∷ is) j l a (here b) = ⊎_elim (λ h. omega (arith, h, l)) (λ e. omega (arith, e, a.0)) (bad-limit s i j b)
 lists-limit s (i ∷ is) j l a (later r f) = lists-limit s is j l a.1 f
 

@@ -35,12 +35,20 @@ inside w = omega (arith, w.there, begins-left w.code)
 
 -- a code in front of a list that cannot be read: behind it the bytes may end, and then they end without an end code
 bad-behind : {s : List ℕ} {i j : ℕ} {u : Undo} (w : Whole s i (Does u)) → Bad s (i + asked w.code) j → Bad s i j
-bad-behind {s} {i} {u = u} w (Bad.past h) =
-    let e : i + asked w.code ≡ length s = omega (arith, inside w) in
-    subst (Bad s i) (sym e) (Bad.endless (Decodes.one i (length s) u w (subst (Decodes s (i + asked w.code)) e (Decodes.none _))))
-bad-behind {i = i} {u = u} w (Bad.undefined k d c) = Bad.undefined k (Decodes.one i k u w d) c
-bad-behind {i = i} {u = u} w (Bad.cut k d c) = Bad.cut k (Decodes.one i k u w d) c
-bad-behind {s} {i} {u = u} w (Bad.endless d) = Bad.endless (Decodes.one i (length s) u w d)
+bad-behind {s} {i} {u = u} w b = go _ refl b
+  where
+    -- what decodes behind the code decodes from it
+    step : (n k : ℕ) → i + asked w.code ≡ n → Decodes s n k → Decodes s i k
+    step n k e d = Decodes.one i k u w (subst (λ (m : ℕ). Decodes s m k) (sym e) d)
+
+    -- an index of its own, so that it can be matched on
+    go : (n : ℕ) {j : ℕ} → i + asked w.code ≡ n → Bad s n j → Bad s i j
+    go n e (Bad.past h) =
+        let q : n ≡ length s = omega (arith, inside w, e) in
+        subst (Bad s i) (sym q) (Bad.endless (step n (length s) e (subst (Decodes s n) q (Decodes.none n))))
+    go n e (Bad.undefined k d c) = Bad.undefined k (step n k e d) c
+    go n e (Bad.cut k d c) = Bad.cut k (step n k e d) c
+    go n e (Bad.endless d) = Bad.endless (step n (length s) e d)
 
 bad-at : {s : List ℕ} {i j : ℕ} → BadCode s i j → Bad s i j
 bad-at (BadCode.past h) = Bad.past h

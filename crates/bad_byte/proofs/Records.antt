@@ -69,6 +69,7 @@ module _ (sh : Shape) where
 
   epilogues-tell : (j : ℕ) (es : List Scope) → FirstOf sh.codes (at es) j → epilogues size codes_at sh es ≡ refuse (BadCodes (code_bytes j))
   unfolding epilogues
+  epilogues-tell j [] x' = elim x' [ ]
   epilogues-tell j (e ∷ es) (here b) = rw (tells-list sh.codes e.index.0 j b) refl
   epilogues-tell j (e ∷ es) (later r f) =
       rw ((reads-list sh.codes e.index.0 r).1, epilogues-tell j es f) refl
