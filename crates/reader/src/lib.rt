@@ -27,7 +27,7 @@ pub struct Step<'a> {
 }
 
 // What stands at an index, and where a reader stands that has taken it.
-#[derive(Drop)]
+#[derive(Clone, Copy)]
 struct Moved {
     taken: Sized,
     at: CodeBytes,
@@ -70,7 +70,7 @@ impl<'a> Reader<'a> {
 }
 
 // What a pass over a code list finds.
-#[derive(Drop)]
+#[derive(Clone, Copy)]
 pub enum Scanned {
     // the halfwords of the list's instructions, and of its end code's instruction
     Ends(u64, u64),
@@ -78,7 +78,7 @@ pub enum Scanned {
 }
 
 // A turn of a pass: whether there is more to take, and what is found so far.
-#[derive(Drop)]
+#[derive(Clone, Copy)]
 struct Turn {
     on: bool,
     found: Scanned,
@@ -137,7 +137,7 @@ pub fn scan(t: &[u8; 256], codes: &[u8], at: CodeBytes) -> Scanned
 }
 
 // Where skipping ends.
-#[derive(Drop)]
+#[derive(Clone, Copy)]
 pub enum Skipped {
     At(CodeBytes),
     Nowhere,
