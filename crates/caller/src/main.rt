@@ -3,6 +3,11 @@
 
 use programs::Text;
 
-fn main() {
-    programs::answer_one(Text::Caller);
+fn main(rt: HostRuntime) {
+    programs::answer_one(
+        &mut rt.stdin(),
+        &mut rt.stdout(),
+        &mut rt.stderr(),
+        Text::Caller,
+    );
 }

@@ -3,6 +3,11 @@
 
 use programs::Text;
 
-fn main() {
-    programs::answer_many(Text::Caller);
+fn main(rt: HostRuntime) {
+    programs::answer_many(
+        &mut rt.stdin(),
+        &mut rt.stdout(),
+        &mut rt.stderr(),
+        Text::Caller,
+    );
 }

@@ -1,6 +1,6 @@
 // A report on standard input, its outline on standard output.
 #![tactic(auto)]
 
-fn main() {
-    outline_programs::outline_one();
+fn main(rt: HostRuntime) {
+    outline_programs::outline_one(&mut rt.stdin(), &mut rt.stdout(), &mut rt.stderr());
 }

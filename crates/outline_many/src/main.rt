@@ -1,6 +1,6 @@
 // Reports on standard input, each after its length; their outlines, each before an empty line, on standard output.
 #![tactic(auto)]
 
-fn main() {
-    outline_programs::outline_many();
+fn main(rt: HostRuntime) {
+    outline_programs::outline_many(&mut rt.stdin(), &mut rt.stdout(), &mut rt.stderr());
 }

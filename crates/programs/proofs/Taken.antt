@@ -3,7 +3,7 @@
 use Prim.Native.Nat.{ℕ}
 use mathlib.Core.Path.{◌≡◌, subst}
 use mathlib.Core.List.{List}
-use Rattle.io.specs.Counts.{IsPrefixLen}
+use Rattle.std.specs.Counts.{IsPrefixLen}
 use Rattle.programs.specs.declared.Input.{Input}
 use Rattle.programs.specs.declared.Input.TheVariants.{Report}
 use Rattle.programs.specs.Inputs.{Fits}

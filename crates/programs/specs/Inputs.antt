@@ -1,6 +1,6 @@
 -- A report that was taken stands at the buffer's start.
 use Rattle.std.specs.Prelude.{ℕ, List}
-use Rattle.io.specs.Counts.{IsPrefixLen}
+use Rattle.std.specs.Counts.{IsPrefixLen}
 use Rattle.programs.specs.declared.Input.{Input}
 use Rattle.programs.specs.declared.Input.TheVariants.{Report, Cut, End}
 

@@ -1,7 +1,7 @@
 -- What the contracts of `streams` cite: how many bytes came, and that they lie in the buffer (RULES 8.8 to 8.11).
 -- Assumes nothing.
-use Rattle.std.specs.Prelude.{ℕ, ◌≤◌, ◌<◌, Bool, true, false, ◌≡◌, List, length, take}
-use Rattle.io.specs.Counts.{IsPrefixLen}
+use Rattle.std.specs.Prelude.{ℕ, ◌≤◌, ◌<◌, true, ◌≡◌, List, length}
+use Rattle.std.specs.Counts.{IsPrefixLen}
 use Rattle.streams.specs.declared.Got.{Got}
 use Rattle.streams.specs.declared.Got.TheVariants.{Bytes, Ended, Failed}
 use Rattle.streams.specs.declared.Filled.{Filled}

@@ -1,11 +1,12 @@
-// Reports that follow one another on a descriptor, each after its length (RULES 8.9). No contract can say which bytes a read puts into a
-// buffer; how many of them came, and that they lie in the buffer, it can.
+// Reports that follow one another in what a reader gives, each after its length (RULES 8.9). No contract says which bytes a read puts into
+// a buffer; how many of them came, and that they lie in the buffer, it does. Of a read that failed nothing is kept but that it did.
 #![tactic(auto)]
 
 ghost use Rattle.std.specs.Prelude.{◌≡◌, ◌≤◌, length};
 ghost use Rattle.streams.specs.Filled.{Gave, Fills, Passes, Follows, Stands};
 
 use lent::word32;
+use std::io::Read;
 
 // What one read gave.
 #[derive(Drop)]
@@ -33,18 +34,14 @@ pub enum Item {
 }
 
 // One read.
-fn read_some(fd: i32, buf: &mut [u8]) -> Got
+fn read_some<R: Read>(reader: &mut R, buf: &mut [u8]) -> Got
     ensures { Gave result (length buf.new) }
 {
-    let got = libc::read(fd, buf);
-    if got < 0 {
-        return Got::Failed;
+    match reader.read(buf) {
+        Err(_) => Got::Failed,
+        Ok(0) => Got::Ended,
+        Ok(count) => Got::Bytes(count),
     }
-    let count = io::count(got, buf);
-    if count == 0 {
-        return Got::Ended;
-    }
-    Got::Bytes(count)
 }
 
 fn came(count: usize, failed: bool) -> Filled
@@ -54,12 +51,12 @@ fn came(count: usize, failed: bool) -> Filled
 }
 
 // Reads until the buffer is full, the input ends or a read fails.
-pub fn fill(fd: i32, buf: &mut [u8]) -> Filled
+pub fn fill<R: Read>(reader: &mut R, buf: &mut [u8]) -> Filled
     ensures { Fills result buf.new }
 {
     let mut count = 0;
     while count < buf.len() {
-        match read_some(fd, &mut buf[count..]) {
+        match read_some(reader, &mut buf[count..]) {
             Got::Bytes(more) => count += more,
             Got::Ended => return came(count, false),
             Got::Failed => return came(count, true),
@@ -69,13 +66,13 @@ pub fn fill(fd: i32, buf: &mut [u8]) -> Filled
 }
 
 // Reads so many bytes, or all up to the input's end or a read that fails, and keeps none. The buffer is the room for them.
-fn skip(fd: i32, buf: &mut [u8], bytes: usize) -> Filled
+fn skip<R: Read>(reader: &mut R, buf: &mut [u8], bytes: usize) -> Filled
     ensures { Passes result bytes }
 {
     let mut count = 0;
     while count < bytes {
         let part = least(bytes - count, buf.len());
-        match read_some(fd, &mut buf[..part]) {
+        match read_some(reader, &mut buf[..part]) {
             Got::Bytes(more) => count += more,
             Got::Ended => return came(count, false),
             Got::Failed => return came(count, true),
@@ -91,18 +88,18 @@ fn least(a: usize, b: usize) -> usize
 }
 
 // The report of so many bytes that follows its length.
-fn next_of(fd: i32, buf: &mut [u8], bytes: usize) -> Item
+fn next_of<R: Read>(reader: &mut R, buf: &mut [u8], bytes: usize) -> Item
     ensures { Follows result bytes buf.new }
 {
     if buf.len() < bytes {
-        let passed = skip(fd, buf, bytes);
+        let passed = skip(reader, buf, bytes);
         let count = passed.count;
         if count < bytes {
             return Item::Cut(passed.failed);
         }
         return Item::TooLong;
     }
-    let filled = fill(fd, &mut buf[..bytes]);
+    let filled = fill(reader, &mut buf[..bytes]);
     let count = filled.count;
     if count < bytes {
         return Item::Cut(filled.failed);
@@ -111,11 +108,11 @@ fn next_of(fd: i32, buf: &mut [u8], bytes: usize) -> Item
 }
 
 // The next report: a length of 32 bits, little-endian, then so many bytes.
-pub fn next(fd: i32, buf: &mut [u8]) -> Item
+pub fn next<R: Read>(reader: &mut R, buf: &mut [u8]) -> Item
     ensures { Stands result buf.new }
 {
     let mut word = [0u8; 4];
-    let filled = fill(fd, &mut word);
+    let filled = fill(reader, &mut word);
     let count = filled.count;
     if count == 0 {
         return Item::End(filled.failed);
@@ -124,5 +121,5 @@ pub fn next(fd: i32, buf: &mut [u8]) -> Item
         return Item::Cut(filled.failed);
     }
     let bytes = word32(&word, 0);
-    next_of(fd, buf, bytes as usize)
+    next_of(reader, buf, bytes as usize)
 }
