@@ -1,5 +1,5 @@
 -- One frame (RULES 6), with its refusals in the order of RULES 9.50.
-use Rattle.std.specs.Prelude.{ℕ, ◌-◌, ◌%◌, ◌^◌, List, map, Bool, true, false, ◌&&◌, length, leb, ltb, eqb}
+use Rattle.std.specs.Prelude.{ℕ, ◌-◌, ◌%◌, ◌^◌, List, Bool, true, false, ◌&&◌, length, leb, ltb, eqb}
 use Rattle.std.proofs.Math.Option.{Option}
 use Rattle.words.specs.Bits.{even}
 use Rattle.lent.specs.Lent.{Lent, lent, end}
