@@ -2,8 +2,8 @@
 -- Assumes nothing.
 use Prim.Native.Nat.{ℕ, ◌≤◌, ◌<◌}
 use mathlib.Core.Path.{◌≡◌, refl, sym, ap, subst, ◌∙◌}
-use mathlib.Core.Logic.{◌⊎◌, inl, inr}
-use mathlib.Core.List.{List, ◌∷◌, ◌++◌}
+use mathlib.Core.Logic.{inl, inr}
+use mathlib.Core.List.{List}
 use mathlib.Core.Bool.{Bool, true, false}
 use lib.ListN.{length}
 use lib.Dec.{ltb}
@@ -21,13 +21,12 @@ use Rattle.codes.specs.Code.{size, codes_at}
 use Rattle.xdata.specs.Xdata.{fit_xdata}
 use Rattle.record.specs.Record.{shape_at}
 use Rattle.place.specs.Judged.{view_at}
-use Rattle.comparing.specs.Items.{Coded, size_of, coded_at, Item, compared}
+use Rattle.comparing.specs.Items.{Coded, size_of, coded_at, compared}
 use Rattle.comparing.specs.declared.Compared.{Compared}
 use Rattle.comparing.specs.declared.Compared.TheVariants as C
 use Rattle.comparing.proofs.Scanning.{view-coded}
 use Rattle.fitting.specs.Fitting.{items, answered, view_fitted, shape_fitted, fitted}
-use Rattle.fitting.specs.Exactly.{InLine, Reads, Compares, Passes, DiffersAt, IsShort, Unread, Exactly}
-use Rattle.fitting.specs.declared.FitRefusal.{FitRefusal}
+use Rattle.fitting.specs.Exactly.{InLine, Reads, Passes, DiffersAt, IsShort, Unread, Exactly}
 use Rattle.fitting.specs.declared.FitRefusal.TheVariants.{Record, Short, Differs}
 use Rattle.fitting.specs.declared.Fitted.{Fitted}
 use Rattle.fitting.specs.declared.Fitted.TheVariants.{Fits, Refused}

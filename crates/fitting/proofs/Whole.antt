@@ -3,7 +3,7 @@
 use Prim.Native.Nat.{ℕ}
 use mathlib.Core.Path.{◌≡◌, refl, sym, ap, ◌∙◌}
 use mathlib.Core.List.{List}
-use mathlib.Core.Bool.{Bool, true, false}
+use mathlib.Core.Bool.{true, false}
 use lib.ListN.{length}
 use lib.Dec.{ltb}
 use native.Mathlib.Omega.{arith}
@@ -30,7 +30,6 @@ use Rattle.comparing.proofs.Scanning.{view-coded}
 use Rattle.fitting.specs.Fitting.{answered, view_fitted, shape_fitted, fitted}
 use Rattle.fitting.specs.AsCoded.Passes.{plan_fitted}
 use Rattle.fitting.specs.declared.FitRefusal.TheVariants.{Record, Short}
-use Rattle.fitting.specs.declared.Fitted.{Fitted}
 use Rattle.fitting.specs.declared.Fitted.TheVariants.{Refused}
 use Rattle.fitting.proofs.Planned.{plan-compared}
 

@@ -1,0 +1,1 @@
+-- By its cases. Assumes nothing.

@@ -1,0 +1,1 @@
+-- By what the prologue comes to. Assumes nothing.
