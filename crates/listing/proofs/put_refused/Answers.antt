@@ -1,0 +1,7 @@
+-- The word and then the number.
+-- Assumes nothing.
+use borrow.Author.Rules.{rules}
+use Rattle.listing.proofs.put_refused.Goals as goal
+
+pub returns : goal.returns
+returns c = rw (← c.number-number.ensures) c.put_count.ensures

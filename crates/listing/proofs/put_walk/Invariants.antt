@@ -1,0 +1,25 @@
+-- The loop's invariant: the lines of the frames so far are laid, and the rest of the walk is left (proofs/Printing.antt). A turn more fills one
+-- of the 256 places, or is the last.
+-- Assumes nothing.
+use Prim.Native.Nat.{◌+◌, ◌-◌}
+use mathlib.Core.Path.{◌≡◌, refl, sym, subst}
+use native.Mathlib.Omega.{arith}
+use Rattle.words.specs.Answer.{if◌then◌else◌}
+use Rattle.frame.specs.Frame.{inputs}
+use Rattle.unwinding.specs.AsCoded.Turn.{begun}
+use Rattle.walking.specs.declared.Standing.{Standing}
+use Rattle.walking.specs.Walk.{arm, walk}
+use Rattle.walking.specs.AsCoded.InPlace.{stands}
+use Rattle.text.specs.Overlay.{Laid}
+use Rattle.text.proofs.Overlaid.{none, joined, laid-length}
+use Rattle.listing.specs.Listing.{printed}
+use borrow.Author.Rules.{rules}
+use Rattle.listing.proofs.Printing.{Printing, printing-begins, printing-small, printing-turn, printing-fewer, printing-headed}
+use Rattle.listing.proofs.put_walk.Given as goal
+
+abbrev pub invariant-loop-on : goal.invariant-loop-on
+invariant-loop-on l =
+    Printing (inputs l.image l.pdata l.rva l.xdata l.base l.stack) (stands l.initial.s l.initial.r l.initial.d).at l.on (stands l.s l.r l.d) l.initial.out l.initial.next l.next l.out
+
+abbrev pub decreases-loop-on : goal.decreases-loop-on
+decreases-loop-on l = if l.on then 256 - l.s.frames + 1 else 0
