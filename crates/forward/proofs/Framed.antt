@@ -18,7 +18,7 @@ use Rattle.words.specs.declared.Refusal.TheVariants.{Reserved}
 use Rattle.words.specs.Answer.{ok, ◌>>=◌, ◌>>◌, need, if◌then◌else◌}
 use Rattle.unwinding.specs.CodeList.{Codes}
 use Rattle.unwinding.specs.Shape.{Shape}
-use Rattle.unwinding.specs.View.{EpilogueOf, View, view}
+use Rattle.unwinding.specs.View.{EpilogueOf, View}
 use Rattle.unwinding.specs.declared.Scope.{Scope}
 use Rattle.codes.specs.Code.{size, codes_at}
 use Rattle.codes.specs.declared.Code.{Code}

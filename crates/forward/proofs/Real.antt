@@ -17,7 +17,6 @@ use Rattle.machine.specs.Registers.{reg, set_reg, set_d, set_sp}
 use Rattle.machine.specs.Step.{load, pop_reg, pop_d, pop, vpop, effect}
 use Rattle.machine.specs.declared.Regs.{Regs}
 use Rattle.forward.specs.Registers.{value, width}
-use Rattle.forward.specs.Saving.{bytes}
 use Rattle.words.proofs.Answers.{bind_ok, need-ok}
 use Rattle.forward.proofs.Storing.{put1, put2, put3, store, store_reg, store_all}
 
