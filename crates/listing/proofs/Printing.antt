@@ -1,10 +1,10 @@
 -- The walk printed turn by turn is the walk printed: what holds wherever a turn begins, how a turn keeps it, and what it says at the end.
 -- Assumes nothing.
-use Prim.Native.Nat.{ℕ, ◌+◌, ◌-◌, ◌<◌, suc}
+use Prim.Native.Nat.{ℕ, ◌+◌, ◌-◌, ◌<◌}
 use mathlib.Core.Path.{◌≡◌, refl, sym, ap, ◌∙◌, subst}
 use mathlib.Core.Bool.{Bool, true, false}
 use mathlib.Core.List.{List, [], ◌∷◌, ◌++◌}
-use lib.ListN.{length, replicate, set, length-replicate}
+use lib.ListN.{length, replicate, set}
 use native.Mathlib.Omega.{arith}
 use Rattle.words.specs.declared.Place.TheVariants.{Leaf}
 use Rattle.words.specs.Answer.{if◌then◌else◌}

@@ -3,7 +3,6 @@
 use Prim.Native.Nat.{ℕ}
 use mathlib.Core.Path.{◌≡◌}
 use mathlib.Core.List.{List, ◌++◌, append_assoc}
-use borrow.Author.Rules.{rules}
 use Rattle.text.specs.Text.{text, decimal, hex8, addresses}
 use Rattle.text.proofs.Overlaid.{joined, joined-two, laid_as}
 use Rattle.listing.specs.Listing.{place_name}

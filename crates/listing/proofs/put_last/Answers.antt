@@ -1,6 +1,5 @@
 -- One text after another.
 -- Assumes nothing.
-use borrow.Author.Rules.{rules}
 use Rattle.text.specs.Text.{text, decimal}
 use Rattle.text.proofs.Overlaid.{joined, joined-two}
 use Rattle.listing.proofs.put_last.Goals as goal

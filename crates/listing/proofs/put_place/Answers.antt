@@ -1,6 +1,5 @@
 -- Each arm lays the name of its place, and the byte.
 -- Assumes nothing.
-use borrow.Author.Rules.{rules}
 use Rattle.listing.proofs.put_place.Goals as goal
 
 pub returns-in-Leaf : goal.returns-in-Leaf

@@ -1,6 +1,5 @@
 -- The word and then the number.
 -- Assumes nothing.
-use borrow.Author.Rules.{rules}
 use Rattle.listing.proofs.put_refused.Goals as goal
 
 pub returns : goal.returns

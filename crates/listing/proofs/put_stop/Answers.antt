@@ -1,6 +1,5 @@
 -- Each arm lays the text of its stop.
 -- Assumes nothing.
-use borrow.Author.Rules.{rules}
 use Rattle.listing.proofs.put_stop.Goals as goal
 
 pub returns-in-End : goal.returns-in-End

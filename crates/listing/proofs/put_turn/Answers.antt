@@ -1,6 +1,5 @@
 -- By whether the turn goes on.
 -- Assumes nothing.
-use borrow.Author.Rules.{rules}
 use Rattle.listing.proofs.put_turn.Goals as goal
 
 pub returns-then-x : goal.returns-then-x

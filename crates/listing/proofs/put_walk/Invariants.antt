@@ -2,19 +2,10 @@
 -- of the 256 places, or is the last.
 -- Assumes nothing.
 use Prim.Native.Nat.{◌+◌, ◌-◌}
-use mathlib.Core.Path.{◌≡◌, refl, sym, subst}
-use native.Mathlib.Omega.{arith}
 use Rattle.words.specs.Answer.{if◌then◌else◌}
 use Rattle.frame.specs.Frame.{inputs}
-use Rattle.unwinding.specs.AsCoded.Turn.{begun}
-use Rattle.walking.specs.declared.Standing.{Standing}
-use Rattle.walking.specs.Walk.{arm, walk}
 use Rattle.walking.specs.AsCoded.InPlace.{stands}
-use Rattle.text.specs.Overlay.{Laid}
-use Rattle.text.proofs.Overlaid.{none, joined, laid-length}
-use Rattle.listing.specs.Listing.{printed}
-use borrow.Author.Rules.{rules}
-use Rattle.listing.proofs.Printing.{Printing, printing-begins, printing-small, printing-turn, printing-fewer, printing-headed}
+use Rattle.listing.proofs.Printing.{Printing}
 use Rattle.listing.proofs.put_walk.Given as goal
 
 abbrev pub invariant-loop-on : goal.invariant-loop-on
