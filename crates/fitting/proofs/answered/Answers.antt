@@ -1,1 +1,0 @@
--- By its cases. Assumes nothing.

@@ -1,1 +1,0 @@
--- By what the prologue comes to. Assumes nothing.
