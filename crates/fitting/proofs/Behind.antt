@@ -1,5 +1,6 @@
 -- Code behind the function is not looked at: with more of it the answer is the same, unless there was too little.
 -- Assumes nothing.
+use Rattle.std.specs.Prelude.{if◌then◌else◌}
 use Prim.Native.Nat.{ℕ, ◌+◌, ◌*◌, ◌^◌, ◌≤◌, ◌<◌}
 use mathlib.Core.Path.{◌≡◌, refl, sym, ap, ap₂, ◌∙◌}
 use mathlib.Core.List.{List, [], ◌∷◌, ◌++◌}
@@ -9,7 +10,6 @@ use lib.Dec.{leb, ltb, eqb}
 use native.Mathlib.Omega.{arith}
 use borrow.Author.Tests.{leb-true, leb-false, le-leb, ne_eqb}
 use Rattle.words.specs.Units.{halfword_bytes}
-use Rattle.words.specs.Answer.{if◌then◌else◌}
 use Rattle.lent.specs.Lent.{Lent}
 use Rattle.lent.specs.Little.{word16}
 use Rattle.unwinding.specs.CodeList.{total}

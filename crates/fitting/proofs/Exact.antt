@@ -1,5 +1,6 @@
 -- A record passes exactly if nothing refuses it and all its instructions are their codes'; and so for each refusal.
 -- Assumes nothing.
+use Rattle.std.specs.Prelude.{if◌then◌else◌}
 use Prim.Native.Nat.{ℕ, ◌≤◌, ◌<◌}
 use mathlib.Core.Path.{◌≡◌, refl, sym, ap, subst, ◌∙◌}
 use mathlib.Core.Logic.{inl, inr}
@@ -11,7 +12,7 @@ use native.Mathlib.Omega.{arith}
 use borrow.Author.Tests.{ltb-true, ltb-false, lt-ltb, le-ltb}
 use Rattle.words.specs.declared.Refusal.{Refusal}
 use Rattle.words.specs.declared.Refusal.TheVariants.{UnfitInput}
-use Rattle.words.specs.Answer.{Res, ok, refuse, ◌>>=◌, if◌then◌else◌, either, verdict}
+use Rattle.words.specs.Answer.{Res, ok, refuse, ◌>>=◌, either, verdict}
 use Rattle.words.proofs.Tests.{if-true, if-false}
 use Rattle.lent.specs.Lent.{Lent}
 use Rattle.unwinding.specs.Shape.{Shape}

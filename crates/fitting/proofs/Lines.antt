@@ -1,5 +1,6 @@
 -- The instructions of a record that passes 6 and 7 stand one behind the other inside the function: prologue, then epilogues.
 -- Assumes nothing.
+use Rattle.std.specs.Prelude.{if◌then◌else◌}
 use Prim.Native.Nat.{ℕ, ◌+◌, ◌*◌, ◌≤◌, ◌<◌}
 use mathlib.Core.Path.{◌≡◌, refl, sym, ap, subst, ◌∙◌}
 use mathlib.Core.List.{List, [], ◌∷◌, ◌++◌, map}
@@ -10,7 +11,7 @@ use native.Mathlib.Omega.{arith}
 use borrow.Author.Tests.{leb-true, eqb-true, eqb-false}
 use Rattle.words.specs.Units.{code_bytes, halfword_bytes}
 use Rattle.words.specs.declared.CodeBytes.{CodeBytes}
-use Rattle.words.specs.Answer.{ok, if◌then◌else◌}
+use Rattle.words.specs.Answer.{ok}
 use Rattle.words.proofs.Answers.{bind_ok, ok_same}
 use Rattle.words.proofs.Tests.{both}
 use Rattle.unwinding.specs.CodeList.{Codes, total}

@@ -1,5 +1,6 @@
 -- Items that fit are those whose instructions are their codes'; and what comparing them in turn comes to.
 -- Assumes nothing.
+use Rattle.std.specs.Prelude.{if◌then◌else◌}
 use Prim.Native.Nat.{ℕ}
 use mathlib.Core.Path.{◌≡◌, refl, sym, ap, ◌∙◌}
 use mathlib.Core.Logic.{◌⊎◌, inl, inr}
@@ -8,7 +9,6 @@ use mathlib.Core.Bool.{Bool, true, false, ◌||◌}
 use lib.Dec.{eqb}
 use native.Mathlib.Omega.{arith}
 use borrow.Author.Tests.{eqb-true, eq-eqb}
-use Rattle.words.specs.Answer.{if◌then◌else◌}
 use Rattle.words.specs.declared.Halfwords.{Halfwords}
 use Rattle.words.proofs.Tests.{both}
 use Rattle.thumb.specs.declared.Action.{Action}

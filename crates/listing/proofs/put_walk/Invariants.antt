@@ -1,8 +1,8 @@
 -- The loop's invariant: the lines of the frames so far are laid, and the rest of the walk is left (proofs/Printing.antt). A turn more fills one
 -- of the 256 places, or is the last.
 -- Assumes nothing.
+use Rattle.std.specs.Prelude.{if◌then◌else◌}
 use Prim.Native.Nat.{◌+◌, ◌-◌}
-use Rattle.words.specs.Answer.{if◌then◌else◌}
 use Rattle.frame.specs.Frame.{inputs}
 use Rattle.walking.specs.AsCoded.InPlace.{stands}
 use Rattle.listing.proofs.Printing.{Printing}

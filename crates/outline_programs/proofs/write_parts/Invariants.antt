@@ -1,10 +1,10 @@
 -- The buffer keeps its length, and where the outline stands it can go on. A part more is of one frame more, or is the last.
 -- Assumes nothing.
+use Rattle.std.specs.Prelude.{if◌then◌else◌}
 use Prim.Native.Nat.{◌-◌}
 use mathlib.Core.Path.{◌≡◌}
 use mathlib.Core.Bool.{true}
 use lib.ListN.{length}
-use Rattle.words.specs.Answer.{if◌then◌else◌}
 use Rattle.outlining.specs.AsCoded.Parts.{Ready}
 use Rattle.outline_programs.proofs.write_parts.Given as goal
 
