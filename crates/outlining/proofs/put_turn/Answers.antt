@@ -1,0 +1,16 @@
+-- One text after another.
+-- Assumes nothing.
+use mathlib.Core.List.{append-nil}
+use Rattle.text.proofs.Overlaid.{joined}
+use Rattle.outlining.proofs.put_turn.Goals as goal
+
+pub returns-then-x : goal.returns-then-x
+returns-then-x c =
+    let on = c.if-x.true in
+    let line = c.before.before.before.before.before.before.before in
+    rw on (joined (joined line.put_opening-next.ensures (rw on at line.put_turn-next.ensures)) c.put_lines.ensures)
+
+pub returns : goal.returns
+returns c =
+    let line = c.before.before.before in
+    rw (c.if-x.false, append-nil) (joined line.put_opening-next.ensures (rw c.if-x.false at line.put_turn-next.ensures))
