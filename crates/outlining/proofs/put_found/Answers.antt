@@ -8,16 +8,12 @@ use Rattle.outlining.proofs.put_found.Goals as goal
 
 pub returns-in-Nothing : goal.returns-in-Nothing
 returns-in-Nothing c =
-    let f = c.before.before.before.before.before.before.before in
-    let start = f.before.before.before.before in
-    let a = start.args in
-    let q = sym (f.find_in-found.ensures start.requires) ∙ c.in-Nothing.is in
+    let a = c.args in
+    let q = sym (c.find_in-found.ensures c.requires) ∙ c.in-Nothing.is in
     rw (found_nothing (find a.image a.pdata.now a.pc) q, no-regions) c.put_text.ensures
 
 pub returns-in-Refused : goal.returns-in-Refused
 returns-in-Refused c =
-    let f = c.before.before.before.before.before.before.before in
-    let start = f.before.before.before.before in
-    let a = start.args in
-    let q = sym (f.find_in-found.ensures start.requires) ∙ c.in-Refused.is in
+    let a = c.args in
+    let q = sym (c.find_in-found.ensures c.requires) ∙ c.in-Refused.is in
     rw (found-refused (find a.image a.pdata.now a.pc) _ q, no-regions) c.put_text-in-Refused.ensures

@@ -6,10 +6,8 @@ use Rattle.outlining.proofs.put_record.Goals as goal
 
 pub returns-then-bits-eq0 : goal.returns-then-bits-eq0
 returns-then-bits-eq0 c =
-    let tested = c.before.before.before.before.before in
-    rw (← tested.bits.ensures.0, eq-eqb _ 0 tested.if-bits-eq0.true, ← c.rva_of.ensures) c.put_regions.ensures
+    rw (← c.bits.ensures.0, eq-eqb _ 0 c.if-bits-eq0.true, ← c.rva_of.ensures) c.put_regions.ensures
 
 pub returns : goal.returns
 returns c =
-    let tested = c.before.before.before.before.before in
-    rw (← tested.bits.ensures.0, ne_eqb _ 0 tested.if-bits-eq0.false, no-regions) c.put_text.ensures
+    rw (← c.bits.ensures.0, ne_eqb _ 0 c.if-bits-eq0.false, no-regions) c.put_text.ensures

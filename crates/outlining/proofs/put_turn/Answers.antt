@@ -7,10 +7,8 @@ use Rattle.outlining.proofs.put_turn.Goals as goal
 pub returns-then-x : goal.returns-then-x
 returns-then-x c =
     let on = c.if-x.true in
-    let line = c.before.before.before.before.before.before.before in
-    rw on (joined (joined line.put_opening-next.ensures (rw on at line.put_turn-next.ensures)) c.put_lines.ensures)
+    rw on (joined (joined c.put_opening-next.ensures (rw on at c.put_turn-next.ensures)) c.put_lines.ensures)
 
 pub returns : goal.returns
 returns c =
-    let line = c.before.before.before in
-    rw (c.if-x.false, append-nil) (joined line.put_opening-next.ensures (rw c.if-x.false at line.put_turn-next.ensures))
+    rw (c.if-x.false, append-nil) (joined c.put_opening-next.ensures (rw c.if-x.false at c.put_turn-next.ensures))
