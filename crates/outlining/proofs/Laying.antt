@@ -1,11 +1,7 @@
 -- Parts laid one behind the other are the outline: what holds wherever a part begins, how a part keeps it, and what it says at the end.
 -- Assumes nothing.
-<<<<<<< HEAD
 use Rattle.std.specs.Prelude.{if◌then◌else◌}
-use Prim.Native.Nat.{ℕ, ◌+◌, ◌-◌, ◌^◌, ◌<◌, ◌≤◌}
-=======
 use Prim.Native.Nat.{ℕ, ◌-◌, ◌^◌, ◌<◌}
->>>>>>> 83d2163426bde273c8b616da5d36658138c16823
 use mathlib.Core.Path.{◌≡◌, refl, sym, ap, ◌∙◌, subst}
 use mathlib.Core.Bool.{Bool, true, false}
 use mathlib.Core.List.{List, [], ◌++◌, append_assoc, append-nil, flatten}

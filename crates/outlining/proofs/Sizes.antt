@@ -1,11 +1,7 @@
 -- The largest part: a heading, a frame's line or the last one, and the regions of one record.
 -- Assumes nothing.
-<<<<<<< HEAD
 use Rattle.std.specs.Prelude.{if◌then◌else◌}
-use Prim.Native.Nat.{ℕ, ◌+◌, ◌≤◌, ◌<◌}
-=======
 use Prim.Native.Nat.{ℕ, ◌≤◌, ◌<◌}
->>>>>>> 83d2163426bde273c8b616da5d36658138c16823
 use mathlib.Core.Bool.{Bool, true, false}
 use mathlib.Core.List.{List, [], ◌++◌}
 use mathlib.Core.Option.{Option, none, some}
