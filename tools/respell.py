@@ -98,6 +98,44 @@ def edit(path, text, clashes):
     return "".join(lines)
 
 
+ANSWER = re.compile(r"^( *(?:ghost )?use )Rattle\.words\.specs\.Answer\.\{([^}]*)\}(;?)\n", re.M)
+IF = "if◌then◌else◌"
+
+
+def library_words(path, text):
+    """`if` is the library's own, and no module comes in under the library's word Any."""
+    if re.search(r" as Any\b", text):
+        text = re.sub(r"\bAny\b", "General", text)
+    if path.endswith("words/specs/Answer.antt"):
+        return re.sub(rf"infix 5 {IF}\n.*?\n\n", "", text, flags=re.S)
+    m = ANSWER.search(text)
+    items = [i.strip() for i in m.group(2).split(",")] if m else []
+    if IF not in items:
+        return text
+    items.remove(IF)
+    rest = f"{m.group(1)}Rattle.words.specs.Answer.{{{', '.join(items)}}}{m.group(3)}\n" if items else ""
+    text = text[: m.start()] + rest + text[m.end() :]
+    std = re.compile(rf"^({re.escape(m.group(1))}Rattle\.std\.specs\.Prelude\.\{{)([^}}]*)\}}", re.M)
+    if std.search(text):
+        return std.sub(lambda s: f"{s.group(1)}{s.group(2)}, {IF}}}", text, count=1)
+    at = re.search(r"^ *(?:ghost )?use ", text, re.M)
+    at = at.start() if at else m.start()
+    return text[:at] + f"{m.group(1)}Rattle.std.specs.Prelude.{{{IF}}}{m.group(3)}\n" + text[at:]
+
+
+def in_words():
+    for p in files("crates", ".rt", ".antt", ".edit"):
+        with open(p, encoding="utf-8") as f:
+            old = f.read()
+        if p.endswith(".edit"):
+            new = re.sub(r"\bAny\.", "General.", old)
+        else:
+            new = library_words(p, old)
+        if new != old:
+            with open(p, "w", encoding="utf-8") as f:
+                f.write(new)
+
+
 def modules(text):
     return re.sub(r"\bas_coded\b", "AsCoded", text)
 
@@ -111,6 +149,8 @@ def files(top, *ends):
 
 
 def main():
+    if sys.argv[1:] == ["--words"]:
+        return in_words()
     old = {p: open(p, encoding="utf-8").read() for p in files("crates", ".rt", ".antt", ".edit")}
     clashes = {p: falls_together(t) for p, t in old.items() if p.endswith(".rt")}
     for p, t in old.items():
@@ -126,6 +166,7 @@ def main():
         for n in list(names) + list(dirs):
             if n in ("as_coded.antt", "as_coded"):
                 os.rename(os.path.join(folder, n), os.path.join(folder, n.replace("as_coded", "AsCoded")))
+    in_words()
 
 
 if __name__ == "__main__":

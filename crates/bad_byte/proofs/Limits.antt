@@ -1,5 +1,6 @@
 -- The byte that 6 tells of a record fits in 16 bits: it has few code bytes, and its indices have at most 16 bits.
 -- Assumes nothing.
+use Rattle.std.specs.Prelude.{if◌then◌else◌}
 use Prim.Native.Nat.{ℕ, zero, suc, ◌+◌, ◌≤◌}
 use mathlib.Core.Logic.{⊎_elim}
 use mathlib.Core.Path.{◌≡◌, refl, subst}
@@ -12,7 +13,7 @@ use Rattle.words.specs.Bits.{bits}
 use Rattle.words.specs.Units.{code_bytes}
 use Rattle.words.specs.declared.CodeBytes.{CodeBytes}
 use Rattle.words.specs.declared.Refusal.TheVariants.{Reserved, BadCodes}
-use Rattle.words.specs.Answer.{ok, refuse, ◌>>=◌, if◌then◌else◌}
+use Rattle.words.specs.Answer.{ok, refuse, ◌>>=◌}
 use Rattle.words.proofs.Answers.{bind_ok, need-ok, ok_same}
 use Rattle.lent.specs.Lent.{Lent, word_at}
 use Rattle.unwinding.specs.Shape.{Shape}

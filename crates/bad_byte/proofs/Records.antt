@@ -1,5 +1,6 @@
 -- A record: it is refused by 6 exactly if not all its lists can be read, and 6 then tells the byte of the first one that cannot.
 -- Assumes nothing.
+use Rattle.std.specs.Prelude.{if◌then◌else◌}
 use Prim.Native.Nat.{ℕ}
 use mathlib.Core.Logic.{◌⊎◌, inl, inr, ⊎_elim}
 use mathlib.Core.Path.{◌≡◌, refl, ap, subst, ◌∙◌}
@@ -11,7 +12,7 @@ use Rattle.words.specs.Refusals.{number}
 use Rattle.words.specs.declared.CodeBytes.{CodeBytes}
 use Rattle.words.specs.declared.Refusal.{Refusal}
 use Rattle.words.specs.declared.Refusal.TheVariants.{BadCodes, BadLayout}
-use Rattle.words.specs.Answer.{Res, ok, refuse, need, ◌>>=◌, ◌>>◌, if◌then◌else◌}
+use Rattle.words.specs.Answer.{Res, ok, refuse, need, ◌>>=◌, ◌>>◌}
 use Rattle.unwinding.specs.CodeList.{Codes, total}
 use Rattle.unwinding.specs.Shape.{Shape}
 use Rattle.unwinding.specs.View.{EpilogueOf, View, fits, epilogues, view}

@@ -1,5 +1,6 @@
 -- What the rows of the table mean at each byte and each value, by the first byte.
 -- Assumes nothing.
+use Rattle.std.specs.Prelude.{if◌then◌else◌}
 use Prim.Native.Nat.{ℕ, ◌+◌, ◌≤◌, ◌<◌}
 use mathlib.Core.Path.{◌≡◌, refl, sym, ap, ◌∙◌}
 use mathlib.Core.Bool.{Bool, true, false, ◌||◌}
@@ -10,7 +11,6 @@ use borrow.Author.Tests.{eqb-true, eqb-false}
 use Rattle.words.specs.Bits.{bits}
 use Rattle.words.specs.Units.{stack_words}
 use Rattle.words.proofs.Tests.{leb-same}
-use Rattle.words.specs.Answer.{if◌then◌else◌}
 use Rattle.codes.specs.Table.{rows, row_in, row_of, range, lr_if}
 use Rattle.codes.specs.declared.Undo.TheVariants.{Up, Pop, SpFrom, Vpop, LoadLr, Nothing}
 use Rattle.codes.specs.declared.Meaning.{Meaning}

@@ -1,5 +1,6 @@
 -- Lists of registers: how far a range reaches, LR by a bit of a code, and a list taken apart, into LR and the others.
 -- Assumes nothing.
+use Rattle.std.specs.Prelude.{if◌then◌else◌}
 use Prim.Native.Nat.{ℕ, ◌+◌, ◌^◌, ◌≤◌, ◌<◌}
 use mathlib.Core.Path.{◌≡◌, refl, sym, ap, ◌∙◌}
 use mathlib.Core.Bool.{Bool, true, false}
@@ -8,7 +9,6 @@ use lib.Pow.{pow_mono, pow_pos}
 use native.Mathlib.Omega.{arith}
 use borrow.Author.Tests.{le-leb, eqb-true, eqb-false, ne_eqb}
 use Rattle.words.specs.Bits.{bits, bit}
-use Rattle.words.specs.Answer.{if◌then◌else◌}
 use Rattle.words.proofs.Powers.{below}
 use Rattle.codes.specs.Table.{range, from_r4, lr_if}
 

@@ -1,13 +1,13 @@
 -- What holds of each row of the table holds of the row of each byte: a code has one to four bytes, and an instruction at most two
 -- halfwords; a code that undoes something has an instruction.
 -- Assumes nothing.
+use Rattle.std.specs.Prelude.{if◌then◌else◌}
 use Prim.Native.Nat.{ℕ, ◌≤◌}
 use mathlib.Core.List.{List, ◌∷◌, []}
 use mathlib.Core.Path.{◌≡◌, refl}
 use mathlib.Core.Bool.{Bool, true, false, ◌&&◌, ◌||◌}
 use lib.Dec.{T, leb, leb→le}
 use borrow.Author.Tests.{leb-true}
-use Rattle.words.specs.Answer.{if◌then◌else◌}
 use Rattle.words.proofs.Tests.{T-both as both}
 use Rattle.codes.specs.Table.{Row, row, rows, row_in, row_of, none}
 use Rattle.codes.specs.declared.Undo.{Undo}

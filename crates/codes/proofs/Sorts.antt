@@ -1,5 +1,6 @@
 -- What the table's entries say is what their rows do: bytes, size and sort.
 -- Assumes nothing.
+use Rattle.std.specs.Prelude.{if◌then◌else◌}
 use Prim.Native.Nat.{ℕ, ◌+◌, ◌*◌, ◌/◌, ◌%◌, ◌≤◌, ◌<◌}
 use mathlib.Core.Path.{◌≡◌, refl, sym, ap, ap₂, subst, ◌∙◌}
 use mathlib.Core.Bool.{Bool, true, false, ◌||◌}
@@ -7,7 +8,6 @@ use lib.ListN.{get_or}
 use lib.Dec.{leb, eqb}
 use native.Mathlib.Omega.{arith}
 use borrow.Author.Tests.{eqb-true, lt-leb}
-use Rattle.words.specs.Answer.{if◌then◌else◌}
 use Rattle.words.specs.Bits.{bits}
 use Rattle.words.specs.Units.{halfwords, stack_words}
 use Rattle.codes.specs.Table.{rows, row_in, row_of}

@@ -1,6 +1,7 @@
 -- What the table's codes are, row by row: a list that is popped is of r0-r12 and LR, whichever row made it; SP is taken from a register other
 -- than SP and pc; d registers have numbers below 32.
 -- Assumes nothing.
+use Rattle.std.specs.Prelude.{if◌then◌else◌}
 use Prim.Native.Nat.{ℕ, ◌+◌, ◌<◌}
 use mathlib.Core.Path.{◌≡◌, refl, subst}
 use mathlib.Core.Logic.{◌≢◌}
@@ -11,7 +12,6 @@ use native.Mathlib.Omega.{arith}
 use borrow.Author.Tests.{eqb-false}
 use Rattle.words.specs.Bits.{bits}
 use Rattle.words.specs.Units.{stack_words}
-use Rattle.words.specs.Answer.{if◌then◌else◌}
 use Rattle.codes.specs.Table.{Row, rows, row_in, row_of, range, lr_if}
 use Rattle.codes.specs.declared.Meaning.TheVariants.{Does, End, Undefined}
 use Rattle.codes.specs.declared.Undo.{Undo}

@@ -1,10 +1,10 @@
 -- Codes in code bytes: one code, and the list from an index on up to an end code, or refusal 6 (RULES 3.5).
-use Rattle.std.specs.Prelude.{ℕ, ◌+◌, ◌*◌, List, [], ◌∷◌, length, take, drop, leb}
+use Rattle.std.specs.Prelude.{ℕ, ◌+◌, ◌*◌, List, [], ◌∷◌, length, take, drop, leb, if◌then◌else◌}
 use Rattle.words.specs.declared.CodeBytes.{CodeBytes}
 use Rattle.words.specs.Units.{code_bytes, halfword_bytes}
-use Rattle.words.specs.Answer.{Res, if◌then◌else◌}
+use Rattle.words.specs.Answer.{Res}
 use Rattle.unwinding.specs.CodeList.{Codes}
-use Rattle.unwinding.specs.Taking as Any
+use Rattle.unwinding.specs.Taking as General
 use Rattle.unwinding.specs.Taking.{Taken as AnyTaken, one, last, bad, Scan}
 use Rattle.codes.specs.Table.{Row, row_of}
 use Rattle.codes.specs.declared.Code.{Code}
@@ -59,7 +59,7 @@ bytes_of b = (row_of b).bytes
 
 -- the code list from an index on
 abbrev pub scan : List ℕ → CodeBytes → Scan Code
-scan s i = Any.scan taking bytes_of s i
+scan s i = General.scan taking bytes_of s i
 
 abbrev pub codes_at : List ℕ → CodeBytes → Res (Codes Code)
-codes_at s i = Any.codes_at taking bytes_of s i
+codes_at s i = General.codes_at taking bytes_of s i

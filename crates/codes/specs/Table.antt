@@ -1,10 +1,9 @@
 -- The unwind codes, row by row as in RULES 3.2. A row is for the first bytes after the row before it, up to its own last one; each of F5 to
 -- FF has a row of its own.
-use Rattle.std.specs.Prelude.{ℕ, ◌+◌, ◌-◌, ◌*◌, ◌^◌, List, [], ◌∷◌, ◌&&◌, ◌||◌, leb, eqb}
+use Rattle.std.specs.Prelude.{ℕ, ◌+◌, ◌-◌, ◌*◌, ◌^◌, List, [], ◌∷◌, ◌&&◌, ◌||◌, leb, eqb, if◌then◌else◌}
 use Rattle.words.specs.declared.Halfwords.{Halfwords}
 use Rattle.words.specs.Units.{halfwords, stack_words}
 use Rattle.words.specs.Bits.{bits}
-use Rattle.words.specs.Answer.{if◌then◌else◌}
 use Rattle.codes.specs.declared.Undo.TheVariants.{Up, Pop, SpFrom, Vpop, LoadLr, Nothing}
 use Rattle.codes.specs.declared.Meaning.{Meaning}
 use Rattle.codes.specs.declared.Meaning.TheVariants.{Does, End, Undefined}

@@ -5,9 +5,8 @@
 pub mod list;
 mod table;
 
-ghost use Rattle.std.specs.Prelude.{◌≡◌, ◌+◌, ◌≤◌, ◌<◌, length, take, drop, get_or, ◌||◌, leb, eqb};
+ghost use Rattle.std.specs.Prelude.{◌≡◌, ◌+◌, ◌≤◌, ◌<◌, length, take, drop, get_or, ◌||◌, leb, eqb, if◌then◌else◌};
 ghost use Rattle.words.specs.Units.{code_bytes as spec_code_bytes, stack_words};
-ghost use Rattle.words.specs.Answer.{if◌then◌else◌};
 ghost use Rattle.codes.specs.Table.{row_of as spec_row_of, lr_if as spec_lr_if};
 ghost use Rattle.codes.specs.AsCoded.Rows.{entry_of, row_numbers};
 ghost use Rattle.codes.specs.AsCoded.Sizing.{sized, fitting};

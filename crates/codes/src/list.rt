@@ -2,8 +2,7 @@
 // (RULES 4.9); so a list is what the ARM manual calls `registers` in the push that a pop undoes. A list is a sum of ranges, bits of a code
 // and LR, which name no register twice: a packed word that would is refused (RULES 4.5). docs/POPS.md shows the line that makes each list,
 // and the lines that load one.
-ghost use Rattle.std.specs.Prelude.{◌≡◌, ◌<◌, leb};
-ghost use Rattle.words.specs.Answer.{if◌then◌else◌};
+ghost use Rattle.std.specs.Prelude.{◌≡◌, ◌<◌, leb, if◌then◌else◌};
 ghost use Rattle.codes.specs.Table.{range as range_of, from_r4 as spec_from_r4, lr_if as spec_lr_if};
 
 // ra to rb, where b is at most 12, so that SP and PC are in no range; no register if it is more, or below a.

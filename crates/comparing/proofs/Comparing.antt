@@ -1,11 +1,12 @@
 -- Comparing the items of a prologue or an epilogue in turn is what one pass over the codes does; and all fit exactly if none differs.
 -- Assumes nothing.
+use Rattle.std.specs.Prelude.{if◌then◌else◌}
 use Prim.Native.Nat.{ℕ, ◌+◌}
 use mathlib.Core.Path.{◌≡◌, refl, sym, ap, ◌∙◌}
 use mathlib.Core.List.{List, [], ◌∷◌, ◌++◌}
 use mathlib.Core.Bool.{Bool, true, false, ◌||◌}
 use lib.Dec.{eqb}
-use Rattle.words.specs.Answer.{ok, if◌then◌else◌}
+use Rattle.words.specs.Answer.{ok}
 use Rattle.unwinding.specs.CodeList.{total}
 use Rattle.expected.specs.Expected.{before, after, ending}
 use Rattle.comparing.specs.Items.{Coded, size_of, opens, leaves, Item, fits, compared, is_last, item, prologue_items, epilogue_items}

@@ -1,5 +1,6 @@
 -- The passes over codes, one code and then the rest, by what stands at an index.
 -- Assumes nothing.
+use Rattle.std.specs.Prelude.{if◌then◌else◌}
 use Prim.Native.Nat.{ℕ, zero, suc, ◌+◌, ◌*◌, ◌≤◌}
 use mathlib.Core.Path.{◌≡◌, refl, sym, ap, ◌∙◌}
 use mathlib.Core.List.{List, []}
@@ -10,7 +11,7 @@ use native.Mathlib.Omega.{arith}
 use borrow.Author.Tests.{ne_eqb}
 use Rattle.words.specs.Units.{code_bytes}
 use Rattle.words.specs.declared.CodeBytes.{CodeBytes}
-use Rattle.words.specs.Answer.{Res, if◌then◌else◌}
+use Rattle.words.specs.Answer.{Res}
 use Rattle.unwinding.specs.CodeList.{total}
 use Rattle.unwinding.specs.Taking.{Scan, nothing}
 use Rattle.codes.specs.Code.{size, take_from, take_at, seen}

@@ -1,10 +1,10 @@
 -- The instructions of a prologue and of an epilogue end to end, each with its offset and its code (RULES 13.4), and the first that is not
 -- the one that its code stands for.
-use Rattle.std.specs.Prelude.{ℕ, ◌+◌, List, [], ◌∷◌, ◌++◌, Bool, false, eqb, get_or}
+use Rattle.std.specs.Prelude.{ℕ, ◌+◌, List, [], ◌∷◌, ◌++◌, Bool, false, eqb, get_or, if◌then◌else◌}
 use Rattle.words.specs.declared.CodeBytes.{CodeBytes}
-use Rattle.words.specs.Answer.{Res, if◌then◌else◌}
+use Rattle.words.specs.Answer.{Res}
 use Rattle.unwinding.specs.CodeList.{Codes, total}
-use Rattle.unwinding.specs.Taking as Any
+use Rattle.unwinding.specs.Taking as General
 use Rattle.unwinding.specs.Taking.{Taken, one, last, bad, Scan}
 use Rattle.codes.specs.Code.{size, taking, bytes_of}
 use Rattle.codes.specs.declared.Code.{Code}
@@ -33,10 +33,10 @@ abbrev pub taking_coded : (at : ℕ) → (left : List ℕ) → Taken Coded
 taking_coded at left = with_first (get_or left 0 0) (taking at left)
 
 abbrev pub scan_coded : List ℕ → CodeBytes → Scan Coded
-scan_coded s i = Any.scan taking_coded bytes_of s i
+scan_coded s i = General.scan taking_coded bytes_of s i
 
 abbrev pub coded_at : List ℕ → CodeBytes → Res (Codes Coded)
-coded_at s i = Any.codes_at taking_coded bytes_of s i
+coded_at s i = General.codes_at taking_coded bytes_of s i
 
 -- what an instruction is there for: a code of a prologue; one of an epilogue, the last before FF or not; an end code, by its size
 pub data Role : Type 0 where

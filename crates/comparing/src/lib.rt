@@ -2,9 +2,9 @@
 // neither records nor files.
 #![tactic(auto)]
 
-ghost use Rattle.std.specs.Prelude.{◌≡◌, ◌+◌, ◌*◌, ◌^◌, ◌<◌, length};
+ghost use Rattle.std.specs.Prelude.{◌≡◌, ◌+◌, ◌*◌, ◌^◌, ◌<◌, length, if◌then◌else◌};
 ghost use Rattle.words.specs.Units.{code_bytes, halfword_bytes as spec_halfword_bytes};
-ghost use Rattle.words.specs.Answer.{ok, if◌then◌else◌};
+ghost use Rattle.words.specs.Answer.{ok};
 ghost use Rattle.unwinding.specs.CodeList.{total};
 ghost use Rattle.codes.specs.AsCoded.Rows.{row_numbers};
 ghost use Rattle.comparing.specs.Items.{size_of, scan_coded};

@@ -1,5 +1,6 @@
 -- Order 4: what the nop of a frame chain moved in packed records, and in one frame's answer.
 -- Assumes nothing.
+use Rattle.std.specs.Prelude.{if◌then◌else◌}
 use Prim.Native.Nat.{ℕ, ◌+◌, ◌-◌, ◌^◌}
 use mathlib.Core.Path.{◌≡◌, refl, sym, ap, ap₂, ◌∙◌}
 use mathlib.Core.Logic.{◌⊎◌, inl, inr}
@@ -12,7 +13,7 @@ use borrow.Author.Tests.{eqb-true, eqb-false}
 use Rattle.words.specs.Units.{stack_words, code_bytes}
 use Rattle.words.specs.declared.Refusal.{Refusal}
 use Rattle.words.specs.declared.Refusal.TheVariants.{Reserved, BadLayout, SpFell}
-use Rattle.words.specs.Answer.{Res, ok, refuse, need, if◌then◌else◌, ◌>>=◌, ◌>>◌}
+use Rattle.words.specs.Answer.{Res, ok, refuse, need, ◌>>=◌, ◌>>◌}
 use Rattle.words.proofs.Answers.{bind_ok, need-ok, ok_same}
 use Rattle.words.proofs.Tests.{both}
 use Rattle.lent.specs.Lent.{Lent}

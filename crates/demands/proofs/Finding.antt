@@ -1,6 +1,7 @@
 -- Finding meets its laws, since in an ascending table the last record that starts at or before the pc has the greatest such start; and a
 -- reader that looks at the first record only breaks them.
 -- Assumes nothing.
+use Rattle.std.specs.Prelude.{if◌then◌else◌}
 use Prim.Native.Nat.{ℕ, zero, suc, ◌+◌, ◌-◌, ◌/◌, ◌%◌, ◌≤◌, ◌<◌}
 use mathlib.Core.Path.{◌≡◌, refl, ap, subst}
 use mathlib.Core.List.{List, map}
@@ -14,7 +15,7 @@ use Rattle.words.specs.Bits.{even}
 use Rattle.words.specs.declared.Refusal.{Refusal}
 use Rattle.words.specs.declared.Refusal.TheVariants.{UnfitInput, PcBelowBase, StartsNotAscending}
 use Rattle.words.proofs.Tests.{both}
-use Rattle.words.specs.Answer.{Res, ok, ◌>>◌, need, if◌then◌else◌, maybe}
+use Rattle.words.specs.Answer.{Res, ok, ◌>>◌, need, maybe}
 use Rattle.unwinding.specs.View.{ascending}
 use Rattle.pdata.specs.Pdata.{entries_from, entries, entry_at, starts, last_up_to, find, found, find_rva}
 use Rattle.pdata.specs.declared.Entry.{Entry}

@@ -1,5 +1,6 @@
 -- Order 3, of our checker.
 -- Assumes nothing.
+use Rattle.std.specs.Prelude.{if◌then◌else◌}
 use Prim.Native.Nat.{ℕ, ◌≤◌}
 use mathlib.Core.Path.{◌≡◌, refl, sym, ap, ap₂, ◌∙◌, subst}
 use mathlib.Core.Logic.{◌⊎◌, inl, inr}
@@ -9,7 +10,7 @@ use native.Mathlib.Omega.{arith}
 use Rattle.words.specs.Refusals.{number}
 use Rattle.words.specs.declared.Refusal.{Refusal}
 use Rattle.words.specs.declared.Refusal.TheVariants.{UnfitInput}
-use Rattle.words.specs.Answer.{Res, ok, refuse, if◌then◌else◌, either}
+use Rattle.words.specs.Answer.{Res, ok, refuse, either}
 use Rattle.lent.specs.Lent.{Lent}
 use Rattle.unwinding.specs.Extent.{of_extent}
 use Rattle.unwinding.specs.Shape.{Shape}

@@ -1,5 +1,6 @@
 -- A frame after the first beside the frame by itself: one that nothing covers is refused with 12 (RULES 7.6); else both answers are one.
 -- Assumes nothing.
+use Rattle.std.specs.Prelude.{if◌then◌else◌}
 use Prim.Native.Nat.{◌-◌}
 use mathlib.Core.Path.{◌≡◌, refl}
 use mathlib.Core.Logic.{◌≢◌}
@@ -10,7 +11,7 @@ use Rattle.words.specs.Bits.{even}
 use Rattle.words.specs.declared.Place.TheVariants.{Leaf}
 use Rattle.words.specs.declared.Refusal.{Refusal}
 use Rattle.words.specs.declared.Refusal.TheVariants.{UnfitInput, BadStack}
-use Rattle.words.specs.Answer.{Res, ok, refuse, ◌>>=◌, ◌>>◌, need, if◌then◌else◌, maybe}
+use Rattle.words.specs.Answer.{Res, ok, refuse, ◌>>=◌, ◌>>◌, need, maybe}
 use Rattle.unwinding.specs.Shape.{Shape}
 use Rattle.unwinding.proofs.Singly.{Later, refusal, covered, leaf}
 use Rattle.machine.specs.declared.Regs.{Regs}

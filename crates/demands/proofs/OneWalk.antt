@@ -11,7 +11,7 @@ use Rattle.words.specs.Bits.{even}
 use Rattle.words.specs.declared.Place.TheVariants.{Leaf, Body}
 use Rattle.unwinding.specs.Singly as Singly
 use Rattle.unwinding.specs.Singly.{Follows, reached}
-use Rattle.unwinding.proofs.OneWalk as Any
+use Rattle.unwinding.proofs.OneWalk as General
 use Rattle.unwinding.proofs.OneWalk.{Same, one_answer}
 use Rattle.machine.specs.declared.Regs.{Regs}
 use Rattle.frame.specs.Frame.{Inputs}
@@ -33,7 +33,7 @@ room-kept a h t g l = omega (arith, (h.less t g l l (omega arith)).frames)
 same-walk : (a b : Reader) → WalkLaws a → WalkLaws b → a.unwind ≡ b.unwind → (t : Inputs) (g : Regs) (l : List Frame)
     → Same arm (λ h. alone (a.unwind t h)) (seen (a.walk t g l)) (seen (b.walk t g l))
 same-walk a b h k e t g l =
-    Any.same-walk arm (λ h. alone (a.unwind t h)) g (length l) (seen (a.walk t g l)) (seen (b.walk t g l)) (h.follows t g l)
+    General.same-walk arm (λ h. alone (a.unwind t h)) g (length l) (seen (a.walk t g l)) (seen (b.walk t g l)) (h.follows t g l)
     (subst (λ v. Follows arm (λ h. alone (v t h)) g (length l) (seen (b.walk t g l))) (sym e) (k.follows t g l))
     (room-kept a h t g l)
     (room-kept b k t g l)

@@ -1,5 +1,6 @@
 -- The laws of packed records, of our reader; and readers that look like one, each refuted by one of them.
 -- Assumes nothing.
+use Rattle.std.specs.Prelude.{if◌then◌else◌}
 use Prim.Native.Nat.{ℕ, ◌^◌, ◌<◌}
 use mathlib.Core.Path.{◌≡◌, refl, sym, ap, subst, ◌∙◌}
 use mathlib.Core.List.{List, [], ◌∷◌}
@@ -7,7 +8,7 @@ use mathlib.Core.Bool.{Bool, true, false, ◌&&◌}
 use native.Mathlib.Omega.{arith}
 use Rattle.words.specs.declared.Refusal.TheVariants.{Reserved}
 use Rattle.words.specs.declared.Verdict.TheVariants.{Given, Refused}
-use Rattle.words.specs.Answer.{Res, ok, refuse, ◌>>◌, need, if◌then◌else◌, verdict}
+use Rattle.words.specs.Answer.{Res, ok, refuse, ◌>>◌, need, verdict}
 use Rattle.unwinding.specs.CodeList.{Codes}
 use Rattle.codes.specs.declared.Code.{Code}
 use Rattle.packed.specs.Packed.{fields, fields_fit, allowed, word_of, write_word, word_answer}

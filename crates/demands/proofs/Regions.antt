@@ -1,5 +1,6 @@
 -- Order 1, of our reader of regions: by what a table's tests say.
 -- Assumes nothing.
+use Rattle.std.specs.Prelude.{if◌then◌else◌}
 use Prim.Native.Nat.{ℕ, ◌+◌, ◌-◌, ◌%◌, ◌≤◌}
 use mathlib.Core.Path.{◌≡◌, refl, sym, ap, ◌∙◌, subst}
 use mathlib.Core.Logic.{◌⊎◌, inl, inr}
@@ -9,7 +10,7 @@ use lib.ListN.{length}
 use native.Mathlib.Omega.{arith}
 use Rattle.words.specs.Refusals.{number}
 use Rattle.words.specs.declared.Refusal.{Refusal}
-use Rattle.words.specs.Answer.{Res, ok, refuse, if◌then◌else◌, either}
+use Rattle.words.specs.Answer.{Res, ok, refuse, either}
 use Rattle.lent.specs.Lent.{Lent, word_at}
 use Rattle.xdata.specs.Xdata.{handled, xdata_size}
 use Rattle.regions.specs.declared.Region.{Region}

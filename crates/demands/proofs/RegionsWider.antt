@@ -1,6 +1,7 @@
 -- The regions of a record are the same from more lent .xdata, since no byte outside was read; and so are their refusals, but for those of
 -- how much is lent.
 -- Assumes nothing.
+use Rattle.std.specs.Prelude.{if◌then◌else◌}
 use Prim.Native.Nat.{ℕ, zero, suc, ◌+◌, ◌-◌, ◌*◌, ◌%◌, ◌≤◌}
 use mathlib.Core.Path.{◌≡◌, refl, sym, ap, ap₂, ◌∙◌}
 use mathlib.Core.Bool.{Bool, true, false, true≢false, ◌&&◌}
@@ -10,7 +11,7 @@ use lib.ListN.{length}
 use native.Mathlib.Omega.{arith}
 use borrow.Author.Tests.{not-true}
 use Rattle.words.specs.declared.Refusal.TheVariants.{OutsideXdata, UnfitInput}
-use Rattle.words.specs.Answer.{Res, ok, refuse, if◌then◌else◌}
+use Rattle.words.specs.Answer.{Res, ok, refuse}
 use Rattle.words.proofs.Answers.{bind_ok, need-ok}
 use Rattle.words.proofs.Tests.{both}
 use Rattle.lent.specs.Lent.{Lent, end, holds, word_at}

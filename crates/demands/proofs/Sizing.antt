@@ -1,5 +1,6 @@
 -- The size laws, of our reader; and the shams that they break.
 -- Assumes nothing.
+use Rattle.std.specs.Prelude.{if◌then◌else◌}
 use Prim.Native.Nat.{ℕ, ◌+◌, ◌-◌, ◌*◌, ◌%◌, ◌≤◌}
 use mathlib.Core.Path.{◌≡◌, refl, sym, ap, ◌∙◌}
 use mathlib.Core.Logic.{◌≢◌}
@@ -12,7 +13,7 @@ use Rattle.lent.specs.Lent.{Lent, holds, word_at}
 use Rattle.words.specs.declared.Refusal.TheVariants.{UnfitInput, Reserved, OutsideXdata}
 use Rattle.words.specs.declared.Verdict.TheVariants.{Given}
 use Rattle.lent.proofs.Bytes.{bytes_of}
-use Rattle.words.specs.Answer.{Res, ok, refuse, verdict, if◌then◌else◌}
+use Rattle.words.specs.Answer.{Res, ok, refuse, verdict}
 use Rattle.xdata.specs.Xdata.{fit_xdata, record_bytes, short_head, long_head, head_at, xdata_size, size_answer}
 use Rattle.xdata.specs.AsCoded.Heads.{whole_record}
 use Rattle.xdata.specs.declared.Head.{Head}

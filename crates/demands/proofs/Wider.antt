@@ -1,6 +1,7 @@
 -- Demand 1's heart: what is answered from some lent bytes, a refusal too unless it is of how much is lent, is answered from more of them
 -- too, since no byte outside was read.
 -- Assumes nothing.
+use Rattle.std.specs.Prelude.{if◌then◌else◌}
 use Prim.Native.Nat.{ℕ, zero, suc, ◌+◌, ◌-◌, ◌*◌, ◌%◌, ◌^◌, ◌≤◌, ◌<◌}
 use mathlib.Core.Path.{◌≡◌, refl, ap, ap₂, ◌∙◌}
 use mathlib.Core.List.{List, ◌++◌}
@@ -15,7 +16,7 @@ use Rattle.words.specs.Bits.{bits, bit, even}
 use Rattle.lent.specs.Lent.{Lent, end, holds, word_at}
 use Rattle.words.specs.Units.{code_word_bytes}
 use Rattle.words.specs.declared.Refusal.TheVariants.{BadStack, OutsideXdata, Reserved, UnfitInput}
-use Rattle.words.specs.Answer.{ok, if◌then◌else◌, maybe}
+use Rattle.words.specs.Answer.{ok, maybe}
 use Rattle.unwinding.specs.CodeList.{run}
 use Rattle.unwinding.specs.Shape.{Shape}
 use Rattle.unwinding.specs.View.{view}

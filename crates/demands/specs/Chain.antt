@@ -1,9 +1,9 @@
 -- Order 4 of document 02, the nop of a frame chain (RULES 4.21): what it moved in packed records, and where one frame's answer moved with it.
-use Rattle.std.specs.Prelude.{ℕ, ◌+◌, ◌-◌, ◌≤◌, ◌<◌, ◌≡◌, ◌⊎◌, ◌∷◌, [], true, false, eqb}
+use Rattle.std.specs.Prelude.{ℕ, ◌+◌, ◌-◌, ◌≤◌, ◌<◌, ◌≡◌, ◌⊎◌, ◌∷◌, [], true, false, eqb, if◌then◌else◌}
 use Rattle.words.specs.declared.Place.TheVariants.{Body}
 use Rattle.words.specs.declared.Refusal.{Refusal}
 use Rattle.words.specs.declared.Refusal.TheVariants.{Reserved, BadLayout}
-use Rattle.words.specs.Answer.{Res, ok, refuse, need, if◌then◌else◌, ◌>>=◌, ◌>>◌}
+use Rattle.words.specs.Answer.{Res, ok, refuse, need, ◌>>=◌, ◌>>◌}
 use Rattle.lent.specs.Lent.{Lent}
 use Rattle.unwinding.specs.Shape.{Shape}
 use Rattle.unwinding.specs.View.{View, view}

@@ -1,9 +1,8 @@
 -- Demand 2 of packed records, as laws of any reader: what is refused, that the word's writer and its fields are inverse, and that the
 -- code bytes stand for the instructions of prologue (RULES 4.6) and epilogue (RULES 4.7 to 4.10).
-use Rattle.std.specs.Prelude.{ℕ, ◌^◌, ◌<◌, ◌≡◌, ◌&&◌}
+use Rattle.std.specs.Prelude.{ℕ, ◌^◌, ◌<◌, ◌≡◌, ◌&&◌, if◌then◌else◌}
 use Rattle.words.specs.declared.Refusal.TheVariants.{Reserved}
 use Rattle.words.specs.declared.Verdict.TheVariants.{Given, Refused}
-use Rattle.words.specs.Answer.{if◌then◌else◌}
 use Rattle.packed.specs.Packed.{fields, fields_fit, allowed}
 use Rattle.packed.specs.declared.Packed.{Packed}
 use Rattle.packed_codes.specs.Lists.{Holds}

@@ -1,11 +1,11 @@
 -- Shams (RULES 10.23): readers that look like one, and that a demand must break (proofs/Refuted.antt).
-use Rattle.std.specs.Prelude.{ℕ, ◌-◌, ◌<◌, ◌≡◌, List, [], ◌∷◌, ◌++◌, leb, eqb, length, take, replicate, get_or}
+use Rattle.std.specs.Prelude.{ℕ, ◌-◌, ◌<◌, ◌≡◌, List, [], ◌∷◌, ◌++◌, leb, eqb, length, take, replicate, get_or, if◌then◌else◌}
 use Rattle.words.specs.Bits.{bit}
 use Rattle.lent.specs.Lent.{Lent, word_at}
 use Rattle.words.specs.Units.{code_bytes}
 use Rattle.words.specs.declared.Refusal.{Refusal}
 use Rattle.words.specs.declared.Verdict.TheVariants.{Given}
-use Rattle.words.specs.Answer.{ok, refuse, if◌then◌else◌}
+use Rattle.words.specs.Answer.{ok, refuse}
 use Rattle.machine.specs.declared.Regs.{Regs}
 use Rattle.packed.specs.declared.Packed.{Packed}
 use Rattle.packed.specs.declared.WordOf.{WordOf}

@@ -1,10 +1,9 @@
 -- An .xdata record's size, asked of any reader that gives one: four bytes for each word of the record, counted off the lent words themselves,
 -- and all of them lent.
-use Rattle.std.specs.Prelude.{ℕ, ◌+◌, ◌-◌, ◌*◌, ◌%◌, ◌≤◌, ◌≡◌, eqb}
+use Rattle.std.specs.Prelude.{ℕ, ◌+◌, ◌-◌, ◌*◌, ◌%◌, ◌≤◌, ◌≡◌, eqb, if◌then◌else◌}
 use Rattle.words.specs.Bits.{bits, bit}
 use Rattle.lent.specs.Lent.{Lent, end, word_at}
 use Rattle.words.specs.declared.Verdict.TheVariants.{Given}
-use Rattle.words.specs.Answer.{if◌then◌else◌}
 use Rattle.demands.specs.Reader.{Reader}
 
 -- the words of a record that begins with w and v: its head, its scopes, its codes and its handler (RULES 2.8 to 2.13)

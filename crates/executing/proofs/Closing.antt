@@ -1,5 +1,6 @@
 -- The instruction of an epilogue does what its code does, where the SP that the code leaves has 32 bits.
 -- Assumes nothing.
+use Rattle.std.specs.Prelude.{if◌then◌else◌}
 use Prim.Native.Nat.{ℕ, ◌+◌, ◌-◌, ◌^◌, ◌<◌}
 use mathlib.Core.Path.{◌≡◌, refl, sym, subst, ◌∙◌}
 use mathlib.Core.Bool.{Bool, true, false}
@@ -10,7 +11,7 @@ use native.Mathlib.Omega.{arith}
 use borrow.Author.Tests.{eqb-true, lt-ltb, ne_eqb}
 use Rattle.words.specs.Bits.{bit, bits}
 use Rattle.words.specs.Units.{stack_bytes}
-use Rattle.words.specs.Answer.{ok, ◌>>=◌, if◌then◌else◌}
+use Rattle.words.specs.Answer.{ok, ◌>>=◌}
 use Rattle.words.proofs.Answers.{bind_ok, ok_same}
 use Rattle.lent.specs.Lent.{Lent}
 use Rattle.codes.specs.declared.Undo.{Undo}

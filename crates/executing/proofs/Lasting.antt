@@ -1,5 +1,6 @@
 -- The last instruction before FF does what its code does, and loads the pc where the code loads LR.
 -- Assumes nothing.
+use Rattle.std.specs.Prelude.{if◌then◌else◌}
 use Prim.Native.Nat.{ℕ, ◌+◌, ◌/◌, ◌%◌, ◌^◌, ◌≤◌, ◌<◌}
 use mathlib.Core.Path.{◌≡◌, refl, sym, ap, subst, ◌∙◌}
 use mathlib.Core.Bool.{Bool, true, false}
@@ -11,7 +12,7 @@ use borrow.Author.Tests.{eqb-true}
 use Rattle.words.specs.Bits.{bit, bits, even}
 use Rattle.words.specs.Units.{stack_bytes}
 use Rattle.words.specs.declared.StackWords.{StackWords}
-use Rattle.words.specs.Answer.{ok, if◌then◌else◌}
+use Rattle.words.specs.Answer.{ok}
 use Rattle.words.proofs.Answers.{bind_ok}
 use Rattle.lent.specs.Lent.{Lent, holds, word_at}
 use Rattle.codes.specs.declared.Undo.{Undo}

@@ -1,5 +1,6 @@
 -- The instruction of a prologue does what its code undoes.
 -- Assumes nothing.
+use Rattle.std.specs.Prelude.{if◌then◌else◌}
 use Prim.Native.Nat.{ℕ, ◌+◌, ◌^◌, ◌≤◌, ◌<◌}
 use mathlib.Core.Path.{◌≡◌, refl, sym, ap, subst, ◌∙◌}
 use mathlib.Core.Bool.{Bool, true, false}
@@ -11,7 +12,6 @@ use native.Mathlib.Omega.{arith}
 use borrow.Author.Tests.{eqb-true}
 use Rattle.words.specs.Units.{stack_bytes}
 use Rattle.words.specs.declared.StackWords.{StackWords}
-use Rattle.words.specs.Answer.{if◌then◌else◌}
 use Rattle.lent.specs.Lent.{Lent, end}
 use Rattle.codes.specs.declared.Code.{Code}
 use Rattle.codes.specs.declared.Undo.{Undo}

@@ -1,6 +1,7 @@
 -- Registers loaded one after the other, by the machine's own steps, where each word was lent: whoever has those words and keeps all else has
 -- the same registers.
 -- Assumes nothing.
+use Rattle.std.specs.Prelude.{if◌then◌else◌}
 use Prim.Native.Nat.{ℕ, zero, suc, ◌+◌, ◌*◌, ◌^◌, ◌≤◌, ◌<◌}
 use mathlib.Core.Path.{◌≡◌, refl, sym, ap, subst, ◌∙◌}
 use mathlib.Core.Bool.{Bool, true, false}
@@ -10,7 +11,7 @@ use lib.Dec.{ltb}
 use native.Mathlib.Omega.{arith}
 use borrow.Author.Tests.{lt-ltb, le-ltb}
 use Rattle.words.specs.Bits.{bit}
-use Rattle.words.specs.Answer.{ok, if◌then◌else◌}
+use Rattle.words.specs.Answer.{ok}
 use Rattle.words.proofs.Answers.{bind_ok, ok_same}
 use Rattle.lent.specs.Lent.{Lent, end, holds, word_at}
 use Rattle.machine.specs.Registers.{set_reg, set_d, set_sp}

@@ -1,5 +1,6 @@
 -- Of a record that fits, each instruction is the one of its code: of each part of its prologue and of each epilogue. Its view without first bytes.
 -- Assumes nothing.
+use Rattle.std.specs.Prelude.{if◌then◌else◌}
 use Prim.Native.Nat.{ℕ, ◌+◌, ◌<◌}
 use mathlib.Core.Path.{◌≡◌, refl, sym, ap, ap₂, subst, ◌∙◌}
 use mathlib.Core.Bool.{Bool, true, false}
@@ -8,7 +9,7 @@ use native.Mathlib.Omega.{arith}
 use borrow.Author.Tests.{ne_eqb}
 use Rattle.words.specs.Units.{code_bytes}
 use Rattle.words.specs.declared.Refusal.TheVariants.{BadLayout}
-use Rattle.words.specs.Answer.{ok, if◌then◌else◌}
+use Rattle.words.specs.Answer.{ok}
 use Rattle.words.proofs.Answers.{bind_ok, need-ok, ok_same}
 use Rattle.lent.specs.Lent.{Lent}
 use Rattle.unwinding.specs.CodeList.{total}

@@ -55,6 +55,7 @@ pub codes-known : (s : List ℕ) (i : CodeBytes) (c : Codes Coded) → coded_at 
 codes-known s = codes_all takes-coded Known s (λ j c next e. known-taken j (drop j s) c next e)
 
 all_in : (c : Coded) (l : List Coded) → All Known l → In c l → Known c
+all_in c [] h i = elim i [ ]
 all_in c (x ∷ l) h here = h.0
 all_in c (x ∷ l) h (later i) = all_in c l h.1 i
 

@@ -1,10 +1,9 @@
 -- What each instruction of `thumb` does by the ARM Architecture Reference Manual (RULES 13.14): to r0-r12, SP, LR, pc and d0-d31, and to the
 -- part of memory that is lent as the stack. No unwind code is named here. SP and pc have 32 bits and wrap. Of memory that is not lent
 -- nothing is said, neither what a load takes from there nor what a store leaves.
-use Rattle.std.specs.Prelude.{ℕ, ◌+◌, ◌-◌, ◌%◌, ◌^◌, ◌≡◌, ◌≢◌, List, [], ◌∷◌, Bool, true, false, eqb}
+use Rattle.std.specs.Prelude.{ℕ, ◌+◌, ◌-◌, ◌%◌, ◌^◌, ◌≡◌, ◌≢◌, List, [], ◌∷◌, Bool, true, false, eqb, if◌then◌else◌}
 use Rattle.words.specs.Bits.{bit, even}
 use Rattle.words.specs.Units.{halfword_bytes}
-use Rattle.words.specs.Answer.{if◌then◌else◌}
 use Rattle.lent.specs.Lent.{Lent, holds, word_at}
 use Rattle.machine.specs.declared.Regs.{Regs}
 use Rattle.thumb.specs.declared.Action.{Action}

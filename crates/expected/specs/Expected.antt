@@ -1,8 +1,7 @@
 -- The instruction that a code stands for, in a prologue (RULES 13.5) and in an epilogue (RULES 13.6).
-use Rattle.std.specs.Prelude.{ℕ, ◌+◌, ◌^◌, ◌<◌, Bool, true, ◌&&◌, ◌||◌, eqb}
+use Rattle.std.specs.Prelude.{ℕ, ◌+◌, ◌^◌, ◌<◌, Bool, true, ◌&&◌, ◌||◌, eqb, if◌then◌else◌}
 use Rattle.words.specs.Bits.{bit}
 use Rattle.words.specs.Units.{halfwords, stack_bytes}
-use Rattle.words.specs.Answer.{if◌then◌else◌}
 use Rattle.codes.specs.declared.Code.{Code}
 use Rattle.codes.specs.declared.Undo.{Undo}
 use Rattle.codes.specs.declared.Undo.TheVariants as U

@@ -40,7 +40,7 @@ pub extern "C" fn leafbobbin_caller(report: &[u8], out: &mut [u8]) -> usize
 // 0 if it is refused.
 
 // What finding tells a C program.
-#[derive(Drop)]
+#[derive(Clone, Copy)]
 struct Told {
     refusal: u32,
     record: [u64; 4],

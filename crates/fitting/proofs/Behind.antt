@@ -1,28 +1,28 @@
 -- Code behind the function is not looked at: with more of it the answer is the same, unless there was too little.
 -- Assumes nothing.
+use Rattle.std.specs.Prelude.{if◌then◌else◌}
 use Prim.Native.Nat.{ℕ, ◌+◌, ◌*◌, ◌^◌, ◌≤◌, ◌<◌}
-use mathlib.Core.Path.{◌≡◌, refl, sym, ap, ap₂, subst, ◌∙◌}
+use mathlib.Core.Path.{◌≡◌, refl, sym, ap, ap₂, ◌∙◌}
 use mathlib.Core.List.{List, [], ◌∷◌, ◌++◌}
-use mathlib.Core.Bool.{Bool, true, false, ◌&&◌}
-use lib.ListN.{length, get_or, length-append, get_or-append}
+use mathlib.Core.Bool.{Bool, true, false}
+use lib.ListN.{length, length-append, get_or-append}
 use lib.Dec.{leb, ltb, eqb}
 use native.Mathlib.Omega.{arith}
 use borrow.Author.Tests.{leb-true, leb-false, le-leb, ne_eqb}
 use Rattle.words.specs.Units.{halfword_bytes}
-use Rattle.words.specs.Answer.{if◌then◌else◌}
 use Rattle.lent.specs.Lent.{Lent}
 use Rattle.lent.specs.Little.{word16}
 use Rattle.unwinding.specs.CodeList.{total}
 use Rattle.unwinding.specs.View.{EpilogueOf, View}
 use Rattle.thumb.specs.Instruction.{of16, of32, no_instruction, instruction_at}
 use Rattle.thumb.specs.declared.Instruction.{Instruction}
-use Rattle.expected.specs.Expected.{allows, meets}
-use Rattle.comparing.specs.Items.{Coded, size_of, Role, opens, closes, leaves, Item, fits, expects, compared, is_last, item, prologue_items, epilogue_items}
+use Rattle.expected.specs.Expected.{meets}
+use Rattle.comparing.specs.Items.{Coded, size_of, Role, opens, closes, leaves, Item, expects, compared, is_last, item, prologue_items, epilogue_items}
 use Rattle.comparing.specs.declared.Compared.{Compared}
-use Rattle.comparing.specs.declared.Compared.TheVariants.{Same, Differs}
+use Rattle.comparing.specs.declared.Compared.TheVariants.{Differs}
 use Rattle.expected.specs.declared.Expected.{Expected}
 use Rattle.fitting.specs.Fitting.{epilogues_items, items, answered, fitted}
-use Rattle.fitting.specs.Exactly.{InLine, Reads}
+use Rattle.fitting.specs.Exactly.{InLine}
 use Rattle.fitting.specs.declared.FitRefusal.TheVariants.{Short}
 use Rattle.fitting.specs.declared.Fitted.{Fitted}
 use Rattle.fitting.specs.declared.Fitted.TheVariants.{Refused}

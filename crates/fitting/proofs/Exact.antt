@@ -1,9 +1,10 @@
 -- A record passes exactly if nothing refuses it and all its instructions are their codes'; and so for each refusal.
 -- Assumes nothing.
+use Rattle.std.specs.Prelude.{if◌then◌else◌}
 use Prim.Native.Nat.{ℕ, ◌≤◌, ◌<◌}
 use mathlib.Core.Path.{◌≡◌, refl, sym, ap, subst, ◌∙◌}
-use mathlib.Core.Logic.{◌⊎◌, inl, inr}
-use mathlib.Core.List.{List, ◌∷◌, ◌++◌}
+use mathlib.Core.Logic.{inl, inr}
+use mathlib.Core.List.{List}
 use mathlib.Core.Bool.{Bool, true, false}
 use lib.ListN.{length}
 use lib.Dec.{ltb}
@@ -11,7 +12,7 @@ use native.Mathlib.Omega.{arith}
 use borrow.Author.Tests.{ltb-true, ltb-false, lt-ltb, le-ltb}
 use Rattle.words.specs.declared.Refusal.{Refusal}
 use Rattle.words.specs.declared.Refusal.TheVariants.{UnfitInput}
-use Rattle.words.specs.Answer.{Res, ok, refuse, ◌>>=◌, if◌then◌else◌, either, verdict}
+use Rattle.words.specs.Answer.{Res, ok, refuse, ◌>>=◌, either, verdict}
 use Rattle.words.proofs.Tests.{if-true, if-false}
 use Rattle.lent.specs.Lent.{Lent}
 use Rattle.unwinding.specs.Shape.{Shape}
@@ -21,13 +22,12 @@ use Rattle.codes.specs.Code.{size, codes_at}
 use Rattle.xdata.specs.Xdata.{fit_xdata}
 use Rattle.record.specs.Record.{shape_at}
 use Rattle.place.specs.Judged.{view_at}
-use Rattle.comparing.specs.Items.{Coded, size_of, coded_at, Item, compared}
+use Rattle.comparing.specs.Items.{Coded, size_of, coded_at, compared}
 use Rattle.comparing.specs.declared.Compared.{Compared}
 use Rattle.comparing.specs.declared.Compared.TheVariants as C
 use Rattle.comparing.proofs.Scanning.{view-coded}
 use Rattle.fitting.specs.Fitting.{items, answered, view_fitted, shape_fitted, fitted}
-use Rattle.fitting.specs.Exactly.{InLine, Reads, Compares, Passes, DiffersAt, IsShort, Unread, Exactly}
-use Rattle.fitting.specs.declared.FitRefusal.{FitRefusal}
+use Rattle.fitting.specs.Exactly.{InLine, Reads, Passes, DiffersAt, IsShort, Unread, Exactly}
 use Rattle.fitting.specs.declared.FitRefusal.TheVariants.{Record, Short, Differs}
 use Rattle.fitting.specs.declared.Fitted.{Fitted}
 use Rattle.fitting.specs.declared.Fitted.TheVariants.{Fits, Refused}

@@ -1,5 +1,6 @@
 -- The instructions of a record that passes 6 and 7 stand one behind the other inside the function: prologue, then epilogues.
 -- Assumes nothing.
+use Rattle.std.specs.Prelude.{if◌then◌else◌}
 use Prim.Native.Nat.{ℕ, ◌+◌, ◌*◌, ◌≤◌, ◌<◌}
 use mathlib.Core.Path.{◌≡◌, refl, sym, ap, subst, ◌∙◌}
 use mathlib.Core.List.{List, [], ◌∷◌, ◌++◌, map}
@@ -7,26 +8,25 @@ use mathlib.Core.Bool.{Bool, true, false, ◌&&◌, ◌||◌}
 use lib.ListN.{drop}
 use lib.Dec.{leb, eqb}
 use native.Mathlib.Omega.{arith}
-use borrow.Author.Tests.{leb-true, leb-false, eqb-true, eqb-false}
+use borrow.Author.Tests.{leb-true, eqb-true, eqb-false}
 use Rattle.words.specs.Units.{code_bytes, halfword_bytes}
 use Rattle.words.specs.declared.CodeBytes.{CodeBytes}
-use Rattle.words.specs.Answer.{ok, if◌then◌else◌}
+use Rattle.words.specs.Answer.{ok}
 use Rattle.words.proofs.Answers.{bind_ok, ok_same}
 use Rattle.words.proofs.Tests.{both}
 use Rattle.unwinding.specs.CodeList.{Codes, total}
 use Rattle.unwinding.specs.Shape.{Shape, start_of}
-use Rattle.unwinding.specs.Taking.{Scan, one, last}
-use Rattle.unwinding.specs.View.{EpilogueOf, View, Stretch, stretch, epilogues, view}
-use Rattle.unwinding.specs.AsCoded.Lined.{empty, reach_of, next, lined}
+use Rattle.unwinding.specs.Taking.{Scan}
+use Rattle.unwinding.specs.View.{EpilogueOf, View, stretch, epilogues, view}
+use Rattle.unwinding.specs.AsCoded.Lined.{empty, next, lined}
 use Rattle.unwinding.specs.declared.Scope.{Scope}
-use Rattle.unwinding.proofs.All.{All, Sized}
+use Rattle.unwinding.proofs.All.{Sized}
 use Rattle.unwinding.proofs.Lined.{fits-lined}
 use Rattle.unwinding.proofs.Scanning.{by-scan, codes_all}
 use Rattle.unwinding.proofs.Viewed.{viewed}
-use Rattle.codes.specs.Code.{seen, taking, take_at}
 use Rattle.codes.proofs.Scanning.{take-size, take_last}
 use Rattle.expected.specs.Expected.{ending}
-use Rattle.comparing.specs.Items.{Coded, size_of, taking_coded, scan_coded, coded_at, Item, opens, closes, leaves, expects, item, is_last, prologue_items, epilogue_items}
+use Rattle.comparing.specs.Items.{Coded, size_of, scan_coded, coded_at, Item, opens, leaves, expects, item, prologue_items, epilogue_items}
 use Rattle.comparing.proofs.Scanning.{takes-coded, taken-one, taken-last}
 use Rattle.fitting.specs.Fitting.{epilogues_items, items}
 use Rattle.fitting.specs.Exactly.{InLine}
@@ -37,20 +37,20 @@ line-from a m b (i ∷ is) h k = (omega (arith, h, k.0), k.1, k.2)
 
 line-append : (a m b : ℕ) (xs ys : List Item) → InLine a xs m → InLine m ys b → InLine a (xs ++ ys) b
 line-append a m b [] ys h k = line-from a m b ys h k
-line-append a m b (i ∷ xs) ys h k = (h.0, h.1, line-append _ m b xs ys h.2 k)
+line-append a m b (i ∷ xs) ys h k = (h.0, h.1, line-append (i.offset + halfword_bytes (expects i.role).size) m b xs ys h.2 k)
 
 line-up : (a b c : ℕ) (xs : List Item) → InLine a xs b → b ≤ c → InLine a xs c
 line-up a b c [] h k = omega (arith, h, k)
-line-up a b c (i ∷ xs) h k = (h.0, h.1, line-up _ b c xs h.2 k)
+line-up a b c (i ∷ xs) h k = (h.0, h.1, line-up (i.offset + halfword_bytes (expects i.role).size) b c xs h.2 k)
 
 -- a line goes up; one that goes nowhere has nothing in it
 pub line-le : (a b : ℕ) (xs : List Item) → InLine a xs b → a ≤ b
 line-le a b [] h = h
-line-le a b (i ∷ xs) h = omega (arith, h.0, h.1, line-le _ b xs h.2)
+line-le a b (i ∷ xs) h = omega (arith, h.0, h.1, line-le (i.offset + halfword_bytes (expects i.role).size) b xs h.2)
 
 line-none : (a b : ℕ) (xs : List Item) → InLine a xs b → b ≤ a → xs ≡ []
 line-none a b [] h k = refl
-line-none a b (i ∷ xs) h k = absurd (omega (arith, h.0, h.1, line-le _ b xs h.2, k))
+line-none a b (i ∷ xs) h k = absurd (omega (arith, h.0, h.1, line-le (i.offset + halfword_bytes (expects i.role).size) b xs h.2, k))
 
 -- what a list that is read has: codes with instructions, and an end code whose instruction has 0, 2 or 4 bytes
 record Ends (c : Codes Coded) : Type 0 where

@@ -1,16 +1,15 @@
 -- Comparing a record's instructions by its plan is comparing the items of its view.
 -- Assumes nothing.
+use Rattle.std.specs.Prelude.{if◌then◌else◌}
 use Prim.Native.Nat.{ℕ, ◌+◌, ◌-◌, ◌*◌, ◌<◌}
 use mathlib.Core.Path.{◌≡◌, refl, sym, ap, ap₂, ◌∙◌}
-use mathlib.Core.List.{List, [], ◌∷◌, ◌++◌, map}
+use mathlib.Core.List.{List, [], ◌∷◌}
 use mathlib.Core.Bool.{Bool, true, false}
-use lib.ListN.{length}
-use lib.Dec.{ltb}
 use native.Mathlib.Omega.{arith}
 use Rattle.words.specs.Units.{code_bytes}
 use Rattle.words.specs.declared.CodeBytes.{CodeBytes}
 use Rattle.words.specs.declared.Refusal.{Refusal}
-use Rattle.words.specs.Answer.{Res, ok, refuse, ◌>>=◌, if◌then◌else◌, either}
+use Rattle.words.specs.Answer.{ok, either}
 use Rattle.words.proofs.Answers.{bind_ok, ok_same}
 use Rattle.unwinding.specs.CodeList.{Codes, total}
 use Rattle.unwinding.specs.Shape.{Shape, start_of}
@@ -28,11 +27,9 @@ use Rattle.record.specs.AsCoded.Plan.{scope_in, scopes_from}
 use Rattle.record.specs.declared.Scopes.{Scopes}
 use Rattle.record.proofs.Shapes.{scopes-done, scopes-next}
 use Rattle.place.specs.AsCoded.Look.{list_size, measured}
-use Rattle.place.specs.declared.Measured.{Measured}
-use Rattle.place.specs.declared.Measured.TheVariants.{Bytes, Unread}
-use Rattle.comparing.specs.Items.{Coded, size_of, scan_coded, coded_at, Item, prologue_items, epilogue_items, compared}
+use Rattle.place.specs.declared.Measured.TheVariants.{Bytes}
+use Rattle.comparing.specs.Items.{Coded, size_of, scan_coded, coded_at, prologue_items, epilogue_items, compared}
 use Rattle.comparing.specs.AsCoded.Passes.{or_else, prologue_pass, epilogue_pass}
-use Rattle.comparing.specs.declared.Compared.{Compared}
 use Rattle.comparing.specs.declared.Compared.TheVariants.{Same}
 use Rattle.comparing.proofs.Scanning.{scan-coded, codes-coded, total-coded}
 use Rattle.comparing.proofs.Comparing.{compared-append, prologue-compared, epilogue-compared}

@@ -1,14 +1,14 @@
 -- Items that fit are those whose instructions are their codes'; and what comparing them in turn comes to.
 -- Assumes nothing.
+use Rattle.std.specs.Prelude.{if◌then◌else◌}
 use Prim.Native.Nat.{ℕ}
 use mathlib.Core.Path.{◌≡◌, refl, sym, ap, ◌∙◌}
 use mathlib.Core.Logic.{◌⊎◌, inl, inr}
 use mathlib.Core.List.{List, [], ◌∷◌, ◌++◌}
-use mathlib.Core.Bool.{Bool, true, false, ◌&&◌, ◌||◌}
+use mathlib.Core.Bool.{Bool, true, false, ◌||◌}
 use lib.Dec.{eqb}
 use native.Mathlib.Omega.{arith}
 use borrow.Author.Tests.{eqb-true, eq-eqb}
-use Rattle.words.specs.Answer.{if◌then◌else◌}
 use Rattle.words.specs.declared.Halfwords.{Halfwords}
 use Rattle.words.proofs.Tests.{both}
 use Rattle.thumb.specs.declared.Action.{Action}
@@ -17,7 +17,6 @@ use Rattle.expected.specs.Expected.{home, allows}
 use Rattle.comparing.specs.Items.{Item, expects, fits, compared}
 use Rattle.expected.specs.declared.Acts.{Acts}
 use Rattle.expected.specs.declared.Acts.TheVariants.{Any, This, OrHome}
-use Rattle.comparing.specs.declared.Compared.{Compared}
 use Rattle.comparing.specs.declared.Compared.TheVariants.{Same, Differs}
 use Rattle.expected.proofs.Equal.{same-equal, equal-same}
 use Rattle.fitting.specs.Exactly.{As, Stands, AllStand}

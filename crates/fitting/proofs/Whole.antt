@@ -1,9 +1,10 @@
 -- The whole answer, by what 4 to 7 say of the record and what reading it came to.
 -- Assumes nothing.
+use Rattle.std.specs.Prelude.{if◌then◌else◌}
 use Prim.Native.Nat.{ℕ}
 use mathlib.Core.Path.{◌≡◌, refl, sym, ap, ◌∙◌}
 use mathlib.Core.List.{List}
-use mathlib.Core.Bool.{Bool, true, false}
+use mathlib.Core.Bool.{true, false}
 use lib.ListN.{length}
 use lib.Dec.{ltb}
 use native.Mathlib.Omega.{arith}
@@ -11,7 +12,7 @@ use Rattle.words.specs.declared.Refusal.{Refusal}
 use Rattle.words.specs.declared.Refusal.TheVariants.{UnfitInput}
 use Rattle.words.specs.declared.Verdict.{Verdict}
 use Rattle.words.specs.declared.Verdict.TheVariants as Verdicts
-use Rattle.words.specs.Answer.{Res, ok, refuse, ◌>>=◌, if◌then◌else◌, either, verdict}
+use Rattle.words.specs.Answer.{Res, ok, refuse, ◌>>=◌, either, verdict}
 use Rattle.words.proofs.Tests.{if-true, if-false}
 use Rattle.lent.specs.Lent.{Lent, lent}
 use Rattle.unwinding.specs.Shape.{Shape}
@@ -30,7 +31,6 @@ use Rattle.comparing.proofs.Scanning.{view-coded}
 use Rattle.fitting.specs.Fitting.{answered, view_fitted, shape_fitted, fitted}
 use Rattle.fitting.specs.AsCoded.Passes.{plan_fitted}
 use Rattle.fitting.specs.declared.FitRefusal.TheVariants.{Record, Short}
-use Rattle.fitting.specs.declared.Fitted.{Fitted}
 use Rattle.fitting.specs.declared.Fitted.TheVariants.{Refused}
 use Rattle.fitting.proofs.Planned.{plan-compared}
 

@@ -1,8 +1,8 @@
 -- Whether a function's instructions are those that its record's codes stand for (RULES 13.9, 13.10).
-use Rattle.std.specs.Prelude.{ℕ, List, [], ◌∷◌, ◌++◌, Bool, length, ltb}
+use Rattle.std.specs.Prelude.{ℕ, List, [], ◌∷◌, ◌++◌, Bool, length, ltb, if◌then◌else◌}
 use Rattle.words.specs.declared.Refusal.TheVariants.{UnfitInput}
 use Rattle.words.specs.Refusals.{number}
-use Rattle.words.specs.Answer.{if◌then◌else◌, either}
+use Rattle.words.specs.Answer.{either}
 use Rattle.lent.specs.Lent.{Lent}
 use Rattle.unwinding.specs.Shape.{Shape}
 use Rattle.unwinding.specs.View.{EpilogueOf, View, view}

@@ -23,14 +23,14 @@ use words::{CodeBytes, Refusal, Verdict};
 
 // Why a record does not fit: it is refused itself, or the .xdata (1, 4 to 7); the code is shorter than the function (18); the instruction at an
 // offset is not the one of its code (17).
-#[derive(Drop)]
+#[derive(Clone, Copy)]
 pub enum FitRefusal {
     Record(Refusal),
     Short,
     Differs(u64),
 }
 
-#[derive(Drop)]
+#[derive(Clone, Copy)]
 pub enum Fitted {
     Fits,
     Refused(FitRefusal),

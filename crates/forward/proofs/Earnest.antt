@@ -1,6 +1,7 @@
 -- The conditions met in earnest: a body that overwrites what was saved and its own words, a sub that writes what SP falls over, nops
 -- that write what they may, SP moved before the epilogue; and the handler that the answer has.
 -- Assumes nothing.
+use Rattle.std.specs.Prelude.{if◌then◌else◌}
 use Prim.Native.Nat.{ℕ, ◌+◌, ◌-◌, ◌*◌, ◌^◌, ◌≤◌, ◌<◌}
 use mathlib.Core.Path.{◌≡◌, refl, sym, ap, ap₂, ◌∙◌, subst}
 use mathlib.Core.Bool.{Bool, true, false}
@@ -12,7 +13,7 @@ use borrow.Author.Tests.{ltb-true, eqb-false}
 use Rattle.lent.specs.Lent.{Lent, end, word_at}
 use Rattle.words.specs.declared.Place.TheVariants.{Prologue, Body, Epilogue}
 use mathlib.Core.Option.{some}
-use Rattle.words.specs.Answer.{ok, if◌then◌else◌}
+use Rattle.words.specs.Answer.{ok}
 use Rattle.unwinding.specs.Shape.{Shape}
 use Rattle.unwinding.specs.View.{View}
 use Rattle.codes.specs.declared.Code.{Code}

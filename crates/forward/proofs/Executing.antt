@@ -143,7 +143,7 @@ room-append [] b = omega arith
 room-append (c ∷ a) b = omega (arith, room-append a b)
 
 -- some of the instructions and then more of them
-pub done-went : {e s t : State} {before cs : List Code} → Done e before s → Went before s cs t → Done e (cs ++ before) t
+pub done-went : {before : List Code} {e s : State} {cs : List Code} {t : State} → Done e before s → Went before s cs t → Done e (cs ++ before) t
 done-went h stays = h
 done-went h (goes c w f) = next c (done-went h w) f
 

@@ -1,5 +1,6 @@
 -- Demand 3 for one frame's whole answer on lent tables and stack.
 -- Assumes nothing.
+use Rattle.std.specs.Prelude.{if◌then◌else◌}
 use Prim.Native.Nat.{ℕ, ◌-◌, ◌%◌, ◌^◌, ◌≤◌, ◌<◌}
 use mathlib.Core.Path.{◌≡◌, refl, sym, ap, ap₂, ◌∙◌, subst}
 use mathlib.Core.Bool.{Bool, true, false, ◌&&◌}
@@ -15,10 +16,10 @@ use Rattle.lent.specs.Lent.{Lent, end}
 use Rattle.words.specs.Units.{code_bytes, halfword_bytes}
 use Rattle.words.specs.declared.CodeBytes.{CodeBytes}
 use Rattle.words.specs.declared.Refusal.TheVariants.{Reserved}
-use Rattle.words.specs.Answer.{ok, ◌>>=◌, ◌>>◌, need, if◌then◌else◌}
+use Rattle.words.specs.Answer.{ok, ◌>>=◌, ◌>>◌, need}
 use Rattle.unwinding.specs.CodeList.{Codes}
 use Rattle.unwinding.specs.Shape.{Shape}
-use Rattle.unwinding.specs.View.{EpilogueOf, View, view}
+use Rattle.unwinding.specs.View.{EpilogueOf, View}
 use Rattle.unwinding.specs.declared.Scope.{Scope}
 use Rattle.codes.specs.Code.{size, codes_at}
 use Rattle.codes.specs.declared.Code.{Code}

@@ -6,12 +6,10 @@ use mathlib.Core.Logic.{inl, inr}
 use mathlib.Core.List.{List, ◌++◌}
 use native.Mathlib.Omega.{arith}
 use Rattle.lent.specs.Lent.{Lent, end, word_at}
-use Rattle.words.specs.Answer.{ok}
 use Rattle.codes.specs.declared.Code.{Code}
 use Rattle.codes.specs.declared.Undo.{Undo}
 use Rattle.codes.specs.declared.Undo.TheVariants.{Up, Pop, SpFrom, Vpop, LoadLr, Nothing}
 use Rattle.machine.specs.Step.{effect}
-use Rattle.forward.specs.Registers.{value}
 use Rattle.forward.specs.Saving.{RX}
 use Rattle.forward.specs.State.{State}
 use Rattle.forward.specs.Epilogue.{Undoes, Idles, Leaves, Ran, none, next}

@@ -1,6 +1,7 @@
 -- Undoing in steps of one register each, over registers as one function and memory as one: what a step does, and which registers and
 -- words undoing a list of steps still needs.
 -- Assumes nothing.
+use Rattle.std.specs.Prelude.{if◌then◌else◌}
 use Prim.Native.Nat.{ℕ, ◌+◌, ◌*◌, ◌%◌, ◌^◌, ◌≤◌}
 use mathlib.Core.Path.{◌≡◌, refl, ap₂, ◌∙◌}
 use mathlib.Core.Bool.{Bool, true, false}
@@ -9,7 +10,6 @@ use mathlib.Core.List.{List, [], ◌∷◌}
 use lib.Dec.{ltb, eqb}
 use native.Mathlib.Omega.{arith}
 use borrow.Author.Tests.{eqb-true, eqb-false}
-use Rattle.words.specs.Answer.{if◌then◌else◌}
 use Rattle.forward.specs.Registers.{width, Lasting}
 
 pub data Op : Type 0 where

@@ -1,5 +1,6 @@
 -- The integer lists of packed words, register by register: one computed test over the fields.
 -- Assumes nothing.
+use Rattle.std.specs.Prelude.{if◌then◌else◌}
 use Prim.Native.Nat.{ℕ, zero, suc, ◌+◌, ◌-◌, ◌*◌, ◌%◌, ◌^◌, ◌<◌}
 use mathlib.Core.Path.{◌≡◌, refl, sym, ap₂, subst}
 use mathlib.Core.List.{List, [], ◌∷◌, ◌++◌}
@@ -7,7 +8,6 @@ use mathlib.Core.Bool.{Bool, true, false, ◌&&◌, ◌||◌}
 use lib.Dec.{T, eqb, eqb→eq}
 use native.Mathlib.Omega.{arith}
 use borrow.Author.Tests.{eqb-true, eqb-false}
-use Rattle.words.specs.Answer.{if◌then◌else◌}
 use Rattle.codes.specs.Table.{range, lr_if}
 use Rattle.packed.specs.Packed.{Fit, integers}
 use Rattle.packed.specs.declared.Packed.{Packed}

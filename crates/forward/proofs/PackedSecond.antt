@@ -1,6 +1,7 @@
 -- A packed record's two lists undo the same prologue: the second has no nop, may load LR by itself with the home words, and may fold
 -- other words into its list than the first.
 -- Assumes nothing.
+use Rattle.std.specs.Prelude.{if◌then◌else◌}
 use Prim.Native.Nat.{ℕ, ◌+◌, ◌-◌, ◌%◌, ◌≤◌, ◌<◌}
 use mathlib.Core.Path.{◌≡◌, refl, sym, ap, ap₂, ◌∙◌, subst}
 use mathlib.Core.List.{List, [], ◌∷◌, ◌++◌, append_assoc, append-nil}
@@ -12,7 +13,6 @@ use borrow.Author.Tests.{not-true, eqb-true, eqb-false, eq-eqb, ne_eqb}
 use Rattle.words.specs.Bits.{bit}
 use Rattle.words.specs.Units.{stack_words}
 use Rattle.words.specs.declared.Halfwords.{Halfwords}
-use Rattle.words.specs.Answer.{if◌then◌else◌}
 use Rattle.codes.specs.Table.{lr_if, bits16, bits32}
 use Rattle.codes.specs.declared.Code.{Code}
 use Rattle.codes.specs.declared.Undo.{Undo}

@@ -14,7 +14,7 @@ use Rattle.words.specs.declared.Place.TheVariants.{Prologue, Body, Epilogue}
 use Rattle.words.specs.Answer.{ok}
 use Rattle.unwinding.specs.CodeList.{total}
 use Rattle.unwinding.specs.Shape.{Shape}
-use Rattle.unwinding.specs.View.{View, view}
+use Rattle.unwinding.specs.View.{View}
 use Rattle.codes.specs.Code.{size, codes_at}
 use Rattle.codes.specs.declared.Code.{Code}
 use Rattle.codes.specs.declared.Undo.{Undo}

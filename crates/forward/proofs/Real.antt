@@ -1,5 +1,6 @@
 -- Registers stay of 32 or 64 bits and bytes stay bytes, whatever the instructions of a prologue store and those of an epilogue load.
 -- Assumes nothing.
+use Rattle.std.specs.Prelude.{if◌then◌else◌}
 use Prim.Native.Nat.{ℕ, zero, suc, ◌+◌, ◌-◌, ◌*◌, ◌/◌, ◌%◌, ◌^◌, ◌<◌}
 use mathlib.Core.Path.{◌≡◌, subst}
 use mathlib.Core.Bool.{Bool, true, false}
@@ -10,14 +11,13 @@ use native.Mathlib.Omega.{arith}
 use Rattle.words.specs.Bits.{bit}
 use Rattle.lent.specs.Lent.{Lent, holds, word_at}
 use Rattle.words.specs.declared.Refusal.TheVariants.{BadStack}
-use Rattle.words.specs.Answer.{ok, if◌then◌else◌}
+use Rattle.words.specs.Answer.{ok}
 use Rattle.codes.specs.declared.Undo.{Undo}
 use Rattle.codes.specs.declared.Undo.TheVariants.{Up, Pop, SpFrom, Vpop, LoadLr, Nothing}
 use Rattle.machine.specs.Registers.{reg, set_reg, set_d, set_sp}
 use Rattle.machine.specs.Step.{load, pop_reg, pop_d, pop, vpop, effect}
 use Rattle.machine.specs.declared.Regs.{Regs}
 use Rattle.forward.specs.Registers.{value, width}
-use Rattle.forward.specs.Saving.{bytes}
 use Rattle.words.proofs.Answers.{bind_ok, need-ok}
 use Rattle.forward.proofs.Storing.{put1, put2, put3, store, store_reg, store_all}
 

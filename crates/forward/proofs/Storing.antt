@@ -1,5 +1,6 @@
 -- Words and registers stored in a stack, byte by byte: what is stored is held, and nothing else is written.
 -- Assumes nothing.
+use Rattle.std.specs.Prelude.{if◌then◌else◌}
 use Prim.Native.Nat.{ℕ, ◌+◌, ◌-◌, ◌*◌, ◌/◌, ◌%◌, ◌^◌, ◌≤◌, ◌<◌}
 use mathlib.Core.Path.{◌≡◌, refl, ap, ap₂, ◌∙◌}
 use mathlib.Core.List.{List, [], ◌∷◌}
@@ -11,7 +12,6 @@ use lib.Seq.{get_or-set_same, get_or-set_other}
 use native.Mathlib.Omega.{arith}
 use Rattle.lent.specs.Little.{word32}
 use Rattle.lent.specs.Lent.{Lent, end, word_at}
-use Rattle.words.specs.Answer.{if◌then◌else◌}
 use Rattle.machine.specs.declared.Regs.{Regs}
 use Rattle.forward.specs.Registers.{value, width, held}
 use Rattle.forward.specs.Saving.{bytes}

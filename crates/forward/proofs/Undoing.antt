@@ -1,6 +1,7 @@
 -- The machine's own steps undo what the prologue's did: under the invariant no code is refused, and the answer is the same for every
 -- stack that agrees below the caller's SP.
 -- Assumes nothing.
+use Rattle.std.specs.Prelude.{if◌then◌else◌}
 use Prim.Native.Nat.{ℕ, zero, suc, ◌+◌, ◌-◌, ◌*◌, ◌%◌, ◌^◌, ◌≤◌, ◌<◌}
 use mathlib.Core.Path.{◌≡◌, refl, sym, ap, ◌∙◌, subst}
 use mathlib.Core.Bool.{Bool, true, false}
@@ -11,7 +12,7 @@ use native.Mathlib.Omega.{arith}
 use borrow.Author.Tests.{eq-eqb, le-leb, lt-ltb, le-ltb}
 use Rattle.words.specs.Bits.{bit}
 use Rattle.lent.specs.Lent.{Lent, end, word_at}
-use Rattle.words.specs.Answer.{Res, ok, ◌>>=◌, if◌then◌else◌}
+use Rattle.words.specs.Answer.{Res, ok, ◌>>=◌}
 use Rattle.unwinding.specs.CodeList.{run}
 use Rattle.unwinding.proofs.All.{All}
 use Rattle.codes.specs.declared.Code.{Code}

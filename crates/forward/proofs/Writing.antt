@@ -1,15 +1,15 @@
 -- One register written, and read again by its number.
 -- Assumes nothing.
+use Rattle.std.specs.Prelude.{if◌then◌else◌}
 use Prim.Native.Nat.{ℕ, ◌+◌, ◌-◌, ◌≤◌, ◌<◌}
 use mathlib.Core.Path.{◌≡◌, refl, ap, ◌∙◌, fun_ext}
 use mathlib.Core.Bool.{Bool, true, false}
 use mathlib.Core.Logic.{◌≢◌}
-use lib.Dec.{ltb, eqb}
+use lib.Dec.{ltb}
 use lib.ListN.{get_or, set, length-set}
 use lib.Seq.{get_or-set_same, get_or-set_other}
 use native.Mathlib.Omega.{arith}
 use borrow.Author.Tests.{eqb-false, ne_eqb, ltb-true, ltb-false}
-use Rattle.words.specs.Answer.{if◌then◌else◌}
 use Rattle.machine.specs.Registers.{reg, set_reg, set_d}
 use Rattle.machine.specs.declared.Regs.{Regs}
 use Rattle.machine.proofs.Written.{reg_same, reg-other}

@@ -1,7 +1,6 @@
 -- Registers by one number: r0-r12 as they are, LR as 14, d0-d31 as 16-47. SP and pc have none.
-use Rattle.std.specs.Prelude.{ℕ, ◌+◌, ◌-◌, ◌*◌, ◌^◌, ◌≤◌, ◌≡◌, ◌⊎◌, get_or, ltb}
+use Rattle.std.specs.Prelude.{ℕ, ◌+◌, ◌-◌, ◌*◌, ◌^◌, ◌≤◌, ◌≡◌, ◌⊎◌, get_or, ltb, if◌then◌else◌}
 use Rattle.lent.specs.Lent.{Lent, word_at}
-use Rattle.words.specs.Answer.{if◌then◌else◌}
 use Rattle.machine.specs.Registers.{reg}
 use Rattle.machine.specs.declared.Regs.{Regs}
 

@@ -1,8 +1,9 @@
 -- What every unwound frame keeps: SP does not fall, and at most 1,020 codes run.
 -- Assumes nothing.
-use Prim.Native.Nat.{ℕ, ◌+◌, ◌-◌, ◌≤◌}
+use Rattle.std.specs.Prelude.{if◌then◌else◌}
+use Prim.Native.Nat.{ℕ, ◌-◌, ◌≤◌}
 use mathlib.Core.Path.{◌≡◌, sym, ap, ◌∙◌}
-use mathlib.Core.List.{List, ◌∷◌, ◌++◌, []}
+use mathlib.Core.List.{List}
 use mathlib.Core.Bool.{Bool, true, false, ◌&&◌}
 use mathlib.Core.Option.{Option, none, some}
 use lib.ListN.{length}
@@ -16,7 +17,7 @@ use Rattle.words.specs.declared.CodeBytes.{CodeBytes}
 use Rattle.words.specs.declared.Refusal.TheVariants.{UnfitInput, BadStack, SpFell}
 use Rattle.words.specs.declared.Verdict.{Verdict}
 use Rattle.words.specs.declared.Verdict.TheVariants.{Given, Refused}
-use Rattle.words.specs.Answer.{Res, ok, ◌>>=◌, ◌>>◌, need, maybe, if◌then◌else◌}
+use Rattle.words.specs.Answer.{Res, ok, ◌>>◌, need, maybe}
 use Rattle.unwinding.specs.Shape.{Shape}
 use Rattle.words.proofs.Answers.{bind_ok, need-ok, ok_same}
 use Rattle.record.proofs.Shapes.{shape-few}

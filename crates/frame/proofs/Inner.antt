@@ -1,5 +1,6 @@
 -- A frame that a record covers is at no leaf: what is left to undo is found in the prologue, in the body or in an epilogue.
 -- Assumes nothing.
+use Rattle.std.specs.Prelude.{if◌then◌else◌}
 use Prim.Native.Nat.{ℕ, ◌+◌, ◌-◌}
 use mathlib.Core.Path.{◌≡◌, sym, ap, ◌∙◌}
 use mathlib.Core.Logic.{◌≢◌}
@@ -13,7 +14,7 @@ use Rattle.lent.specs.Lent.{Lent}
 use Rattle.words.specs.declared.Place.{Place}
 use Rattle.words.specs.declared.Place.TheVariants.{Leaf, Prologue, Epilogue}
 use Rattle.words.specs.declared.Refusal.TheVariants.{InsideInstruction, Conditional, SpFell}
-use Rattle.words.specs.Answer.{Res, ok, refuse, ◌>>◌, need, if◌then◌else◌, maybe}
+use Rattle.words.specs.Answer.{Res, ok, refuse, ◌>>◌, need, maybe}
 use Rattle.words.proofs.Answers.{bind_ok, need-ok}
 use Rattle.unwinding.specs.CodeList.{end_of, run}
 use Rattle.unwinding.specs.Shape.{Shape}

@@ -4,12 +4,11 @@ use Prim.Native.Nat.{ℕ}
 use mathlib.Core.Path.{◌≡◌, refl}
 use mathlib.Core.List.{List, [], ◌∷◌, ◌++◌}
 use lib.ListN.{replicate}
-use Rattle.lent.specs.Lent.{Lent}
 use Rattle.words.specs.Refusals.{verdict_number}
-use Rattle.words.specs.declared.Place.TheVariants.{Leaf, Prologue}
-use Rattle.words.specs.Answer.{Res, ok, verdict}
+use Rattle.words.specs.declared.Place.TheVariants.{Leaf}
+use Rattle.words.specs.Answer.{ok, verdict}
 use Rattle.machine.specs.declared.Regs.{Regs}
-use Rattle.frame.specs.Frame.{Inputs, Caller, frame, unwound}
+use Rattle.frame.specs.Frame.{Inputs, frame}
 use Rattle.lent.proofs.Bytes.{bytes_of}
 use Rattle.frame.proofs.Opened.{opened}
 

@@ -1,5 +1,6 @@
 -- The caller by the record found, of either kind, from where an offset stands in it.
 -- Assumes nothing.
+use Rattle.std.specs.Prelude.{if◌then◌else◌}
 use Prim.Native.Nat.{ℕ, ◌+◌, ◌-◌, ◌≤◌}
 use mathlib.Core.Path.{◌≡◌, refl, sym, ap, ◌∙◌}
 use mathlib.Core.List.{List}
@@ -9,7 +10,7 @@ use lib.Dec.{ltb}
 use Rattle.lent.specs.Lent.{Lent, lent}
 use Rattle.words.specs.declared.Verdict.{Verdict}
 use Rattle.words.specs.declared.Verdict.TheVariants.{Given, Refused}
-use Rattle.words.specs.Answer.{Res, if◌then◌else◌, ◌>>=◌}
+use Rattle.words.specs.Answer.{Res, ◌>>=◌}
 use Rattle.unwinding.specs.Shape.{Shape}
 use Rattle.machine.specs.declared.Regs.{Regs}
 use Rattle.record.specs.declared.Plan.{Plan}

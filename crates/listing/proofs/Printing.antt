@@ -1,14 +1,14 @@
 -- The walk printed turn by turn is the walk printed: what holds wherever a turn begins, how a turn keeps it, and what it says at the end.
 -- Assumes nothing.
-use Prim.Native.Nat.{ℕ, ◌+◌, ◌-◌, ◌<◌, suc}
+use Rattle.std.specs.Prelude.{if◌then◌else◌}
+use Prim.Native.Nat.{ℕ, ◌+◌, ◌-◌, ◌<◌}
 use mathlib.Core.Path.{◌≡◌, refl, sym, ap, ◌∙◌, subst}
 use mathlib.Core.Bool.{Bool, true, false}
 use mathlib.Core.List.{List, [], ◌∷◌, ◌++◌}
-use lib.ListN.{length, replicate, set, length-replicate}
+use lib.ListN.{length, replicate, set}
 use native.Mathlib.Omega.{arith}
 use Rattle.words.specs.declared.Place.TheVariants.{Leaf}
-use Rattle.words.specs.Answer.{if◌then◌else◌}
-use Rattle.unwinding.specs.AsCoded.Turn as Any
+use Rattle.unwinding.specs.AsCoded.Turn as General
 use Rattle.unwinding.proofs.Turns.{turns}
 use Rattle.unwinding.proofs.Looping.{Midway, less, midway-begins, midway-on, fewer, ended-with}
 use Rattle.machine.specs.declared.Regs.{Regs}
@@ -31,7 +31,7 @@ abbrev room : List Frame
 room = replicate 256 (record { pc = 0; sp = 0; place = Leaf })
 
 -- where a turn begins: so many turns are left, and the lines of the frames so far are laid behind a place of a buffer
-pub record Halfway (t : Inputs) (g : Regs) (s : Any.Standing arm) (b : List ℕ) (at next : ℕ) (o : List ℕ) : Type 0 where
+pub record Halfway (t : Inputs) (g : Regs) (s : General.Standing arm) (b : List ℕ) (at next : ℕ) (o : List ℕ) : Type 0 where
   pub left : ℕ
   pub listed : List Frame
   pub list : List Frame
@@ -39,17 +39,17 @@ pub record Halfway (t : Inputs) (g : Regs) (s : Any.Standing arm) (b : List ℕ)
   pub laid : Laid b at (frame_lines 0 listed) next o
 
 -- and behind the last turn: the walk's lines, and the last one
-abbrev pub Printing : (t : Inputs) (g : Regs) (on : Bool) (s : Any.Standing arm) (b : List ℕ) (at next : ℕ) (o : List ℕ) → Type 0
+abbrev pub Printing : (t : Inputs) (g : Regs) (on : Bool) (s : General.Standing arm) (b : List ℕ) (at next : ℕ) (o : List ℕ) → Type 0
 Printing t g true s b i n o = Halfway t g s b i n o
 Printing t g false s b i n o = Laid b i (frame_lines 0 (walk t 256 g).frames ++ last_line (walk t 256 g)) n o
 
-pub printing-begins : (t : Inputs) (s : Any.Standing arm) (b : List ℕ) (i : ℕ) → s ≡ Any.begun arm s.at → Laid b i [] i b → Halfway t s.at s b i i b
+pub printing-begins : (t : Inputs) (s : General.Standing arm) (b : List ℕ) (i : ℕ) → s ≡ General.begun arm s.at → Laid b i [] i b → Halfway t s.at s b i i b
 unfolding frame_lines
 printing-begins t s b i e h = record {
   left = 256;
   listed = [];
   list = room;
-  walks = subst (λ (z : Any.Standing arm). Midway arm (frames t) 1020 s.at room 256 z [] room) (sym e) (midway-begins arm (frames t) 1020 s.at room);
+  walks = subst (λ (z : General.Standing arm). Midway arm (frames t) 1020 s.at room 256 z [] room) (sym e) (midway-begins arm (frames t) 1020 s.at room);
   laid = h;
 }
 
@@ -58,15 +58,15 @@ pub printing-headed : (t : Inputs) (g : Regs) {b o o' : List ℕ} {i n : ℕ} �
 unfolding printed
 printing-headed t g h k = joined h k
 
-pub printing-small : (t : Inputs) (g : Regs) {s : Any.Standing arm} {b : List ℕ} {i n : ℕ} {o : List ℕ} → Halfway t g s b i n o → SmallIn s
+pub printing-small : (t : Inputs) (g : Regs) {s : General.Standing arm} {b : List ℕ} {i n : ℕ} {o : List ℕ} → Halfway t g s b i n o → SmallIn s
 printing-small t g h = h.walks.small
 
 module _ (t : Inputs) (g : Regs) (p : Standing) (r d : List ℕ) {b : List ℕ} {f n : ℕ} {o : List ℕ} (h : Halfway t g (stands p r d) b f n o) (x : Going) (a e : List ℕ) (k : Goes t 256 (stands p r d) x a e) where
-  abbrev s : Any.Standing arm
+  abbrev s : General.Standing arm
   s = stands p r d
 
-  abbrev T : Any.Turn arm
-  T = Any.turn_of arm (frames t) 256 s
+  abbrev T : General.Turn arm
+  T = General.turn_of arm (frames t) 256 s
 
   printing-on : {m : ℕ} {u : List ℕ} → x.on ≡ true → Laid o n (turn_text p x) m u → Halfway t g (stands x.next a e) b f m u
   printing-on {m = m} {u = u} on l =
@@ -86,7 +86,7 @@ module _ (t : Inputs) (g : Regs) (p : Standing) (r d : List ℕ) {b : List ℕ} 
       let q : T.on ≡ true = sym k.on ∙ on in
       let w = midway-on arm (frames t) 1020 h.walks T (turns arm (frames t) 256 s) q (bounded t) in
       let f = fewer arm (frames t) 1020 h.walks T (turns arm (frames t) 256 s) q in
-      let i : (stands x.next a e).frames ≡ T.next.frames = ap (λ (z : Any.Standing arm). z.frames) (k.next on) in
+      let i : (stands x.next a e).frames ≡ T.next.frames = ap (λ (z : General.Standing arm). z.frames) (k.next on) in
       omega (arith, w.room, h.walks.room, f, i)
 
   printing-ends : {m : ℕ} {u : List ℕ} → x.on ≡ false → Laid o n (turn_text p x) m u → Laid b f (frame_lines 0 (walk t 256 g).frames ++ last_line (walk t 256 g)) m u

@@ -1,5 +1,6 @@
 -- Popping goes register by register: after the first n, one more; and a refusal stays.
 -- Assumes nothing.
+use Rattle.std.specs.Prelude.{if◌then◌else◌}
 use Prim.Native.Nat.{ℕ, zero, suc, ◌+◌, ◌-◌, ◌*◌, ◌<◌, ◌^◌}
 use mathlib.Core.Path.{◌≡◌, refl, ap, ◌∙◌}
 use mathlib.Core.Bool.{true, false}
@@ -13,7 +14,7 @@ use Rattle.lent.specs.Lent.{Lent}
 use Rattle.words.specs.Units.{stack_bytes}
 use Rattle.words.specs.declared.StackWords.{StackWords}
 use Rattle.words.specs.declared.Refusal.{Refusal}
-use Rattle.words.specs.Answer.{Res, ok, refuse, ◌>>=◌, if◌then◌else◌}
+use Rattle.words.specs.Answer.{Res, ok, refuse, ◌>>=◌}
 use Rattle.codes.specs.declared.Undo.TheVariants.{LoadLr}
 use Rattle.machine.specs.Step.{load, pop_reg, pop_d, pop, vpop, effect}
 use Rattle.machine.specs.AsCoded.Answers.{loaded_two, regs}

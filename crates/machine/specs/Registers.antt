@@ -1,6 +1,5 @@
 -- Reading and writing one register of RULES 1.1. Integer registers go by number, LR as 14; SP and pc have no number here.
-use Rattle.std.specs.Prelude.{ℕ, get_or, set, eqb}
-use Rattle.words.specs.Answer.{if◌then◌else◌}
+use Rattle.std.specs.Prelude.{ℕ, get_or, set, eqb, if◌then◌else◌}
 use Rattle.machine.specs.declared.Regs.{Regs}
 
 abbrev pub reg : Regs → ℕ → ℕ

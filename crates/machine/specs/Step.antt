@@ -1,10 +1,10 @@
 -- What one code does to the registers, over the lent stack, with refusal 8 (RULES 3.2, 3.9 to 3.14).
-use Rattle.std.specs.Prelude.{ℕ, zero, suc, ◌+◌, ◌-◌, ◌*◌, ◌%◌, ◌^◌, Bool, ◌&&◌, leb, ltb, eqb}
+use Rattle.std.specs.Prelude.{ℕ, zero, suc, ◌+◌, ◌-◌, ◌*◌, ◌%◌, ◌^◌, Bool, ◌&&◌, leb, ltb, eqb, if◌then◌else◌}
 use Rattle.words.specs.Bits.{bit}
 use Rattle.lent.specs.Lent.{Lent, end, holds, word_at}
 use Rattle.words.specs.Units.{stack_bytes}
 use Rattle.words.specs.declared.Refusal.TheVariants.{BadStack}
-use Rattle.words.specs.Answer.{Res, ok, ◌>>=◌, ◌>>◌, need, if◌then◌else◌}
+use Rattle.words.specs.Answer.{Res, ok, ◌>>=◌, ◌>>◌, need}
 use Rattle.codes.specs.declared.Code.{Code}
 use Rattle.codes.specs.declared.Undo.{Undo}
 use Rattle.codes.specs.declared.Undo.TheVariants.{Up, Pop, SpFrom, Vpop, LoadLr, Nothing}

@@ -2,10 +2,9 @@
 // `run_in` that the table lent to it is that of `codes::row_table`.
 #![tactic(auto)]
 
-ghost use Rattle.std.specs.Prelude.{◌≡◌, List, true, ℕ, ◌+◌, ◌-◌, ◌*◌, ◌<◌, ◌≤◌, ◌^◌, eqb, length, get_or, set};
+ghost use Rattle.std.specs.Prelude.{◌≡◌, List, true, ℕ, ◌+◌, ◌-◌, ◌*◌, ◌<◌, ◌≤◌, ◌^◌, eqb, length, get_or, set, if◌then◌else◌};
 ghost use Rattle.words.specs.Bits.{bit};
 ghost use Rattle.lent.specs.Lent.{lent, holds as holds_of};
-ghost use Rattle.words.specs.Answer.{if◌then◌else◌};
 ghost use Rattle.codes.specs.Code.{scan};
 ghost use Rattle.codes.specs.AsCoded.Rows.{row_numbers};
 ghost use Rattle.machine.specs.Step.{stands as stands_of, load as load_of, pop as pop_of, vpop as vpop_of, effect as effect_of, step as step_of};

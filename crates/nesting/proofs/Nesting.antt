@@ -1,6 +1,7 @@
 -- The outline of a sound table is what it has to be. By the list in order from its end: a region that comes before an outline holds some regions
 -- in front of it and is past all others, so those in front come under it, and whatever stood deeper stays under the smallest that holds it.
 -- Assumes nothing.
+use Rattle.std.specs.Prelude.{if◌then◌else◌}
 use Prim.Native.Nat.{ℕ, suc, max, ◌≤◌, ◌<◌}
 use mathlib.Core.Path.{◌≡◌, refl, sym, ap, ◌∙◌}
 use mathlib.Core.Logic.{◌⊎◌, inl, inr}
@@ -11,7 +12,6 @@ use lib.Dec.{leb, ltb, eqb}
 use lib.ListN.{length}
 use native.Mathlib.Omega.{arith}
 use borrow.Author.Tests.{leb-true, ltb-true, lt-ltb, le-leb, eq-eqb, eqb-true}
-use Rattle.words.specs.Answer.{if◌then◌else◌}
 use Rattle.words.proofs.Tests.{both}
 use Rattle.regions.specs.declared.Region.{Region}
 use Rattle.regions.specs.Region.{regions_from, within, covers, encloses, before, sound}

@@ -1,7 +1,6 @@
 -- What an outline of a table has to be (RULES 8.15), said without the way it is made.
-use Rattle.std.specs.Prelude.{ℕ, suc, ◌≤◌, ◌≡◌, ◌⊎◌, Bool, true, false, List, [], ◌∷◌, length}
+use Rattle.std.specs.Prelude.{ℕ, suc, ◌≤◌, ◌≡◌, ◌⊎◌, Bool, true, false, List, [], ◌∷◌, length, if◌then◌else◌}
 use Rattle.std.proofs.Math.Option.{Option, none, some}
-use Rattle.words.specs.Answer.{if◌then◌else◌}
 use Rattle.regions.specs.declared.Region.{Region}
 use Rattle.regions.specs.Region.{encloses, before}
 use Rattle.nesting.specs.Outline as Made

@@ -1,7 +1,7 @@
 -- Two wrong outlines: everything outermost, and each region under the first one of the table that holds it.
-use Rattle.std.specs.Prelude.{ℕ, zero, suc, Bool, List, [], ◌∷◌, eqb}
+use Rattle.std.specs.Prelude.{ℕ, zero, suc, Bool, List, [], ◌∷◌, eqb, if◌then◌else◌}
 use Rattle.std.proofs.Math.Option.{Option, none, some}
-use Rattle.words.specs.Answer.{if◌then◌else◌, maybe}
+use Rattle.words.specs.Answer.{maybe}
 use Rattle.regions.specs.declared.Region.{Region}
 use Rattle.regions.specs.Region.{encloses}
 use Rattle.nesting.specs.Outline as Made

@@ -1,6 +1,7 @@
 -- The record whose regions are printed under a frame is the one that covers it: the frame was unwound by the record found for its pc, and is a
 -- leaf only where nothing was found or the function found ends before the pc. A listed pc has its bit 0 cleared, and finds the same.
 -- Assumes nothing.
+use Rattle.std.specs.Prelude.{if◌then◌else◌}
 use Prim.Native.Nat.{ℕ}
 use mathlib.Core.Path.{◌≡◌, refl, sym, ap, ◌∙◌}
 use mathlib.Core.Logic.{◌≢◌}
@@ -14,7 +15,7 @@ use Rattle.words.specs.Bits.{even}
 use Rattle.words.specs.declared.Place.{Place}
 use Rattle.words.specs.declared.Place.TheVariants.{Leaf, Prologue, Body, Epilogue}
 use Rattle.words.specs.declared.Refusal.TheVariants.{UnfitInput, BadStack}
-use Rattle.words.specs.Answer.{ok, if◌then◌else◌, maybe}
+use Rattle.words.specs.Answer.{ok, maybe}
 use Rattle.words.proofs.Answers.{bind_ok, need-ok, ok_same}
 use Rattle.unwinding.specs.Shape.{Shape}
 use Rattle.unwinding.specs.Trail.{Trail}

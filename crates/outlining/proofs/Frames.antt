@@ -1,5 +1,6 @@
 -- The regions of a frame, by its place: at any but a leaf they are those of the record found, and nowhere does the stack count.
 -- Assumes nothing.
+use Rattle.std.specs.Prelude.{if◌then◌else◌}
 use Prim.Native.Nat.{ℕ, ◌-◌}
 use mathlib.Core.Path.{◌≡◌, refl, ap}
 use mathlib.Core.Logic.{⊎_elim}
@@ -10,7 +11,6 @@ use types.Run.{OneOf}
 use Rattle.words.specs.contracts.Place.{the_type}
 use Rattle.words.specs.declared.Place.{Place}
 use Rattle.words.specs.declared.Place.TheVariants.{Leaf, Prologue, Body, Epilogue}
-use Rattle.words.specs.Answer.{if◌then◌else◌}
 use Rattle.pdata.specs.Pdata.{find}
 use Rattle.frame.specs.Frame.{Inputs, inputs}
 use Rattle.walking.specs.declared.Going.{Going}

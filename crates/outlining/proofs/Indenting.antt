@@ -1,13 +1,13 @@
 -- Every line of regions begins with a space, so that nothing of it is left: each level is two spaces and the outermost is level 1, and a
 -- refused table's line has two spaces.
 -- Assumes nothing.
+use Rattle.std.specs.Prelude.{if◌then◌else◌}
 use Prim.Native.Nat.{ℕ, zero, suc, ◌+◌, ◌-◌, ◌*◌, ◌<◌}
 use mathlib.Core.Path.{◌≡◌, refl, subst}
 use mathlib.Core.Bool.{Bool, true, false}
 use mathlib.Core.List.{[], ◌++◌}
 use lib.ListN.{replicate}
 use native.Mathlib.Omega.{arith}
-use Rattle.words.specs.Answer.{if◌then◌else◌}
 use Rattle.text.specs.Text.{text, decimal}
 use Rattle.regions.specs.declared.Region.{Region}
 use Rattle.regions.specs.declared.RegionRefusal.{RegionRefusal}

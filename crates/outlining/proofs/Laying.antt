@@ -1,5 +1,6 @@
 -- Parts laid one behind the other are the outline: what holds wherever a part begins, how a part keeps it, and what it says at the end.
 -- Assumes nothing.
+use Rattle.std.specs.Prelude.{if◌then◌else◌}
 use Prim.Native.Nat.{ℕ, ◌+◌, ◌-◌, ◌^◌, ◌<◌, ◌≤◌}
 use mathlib.Core.Path.{◌≡◌, refl, sym, ap, ◌∙◌, subst}
 use mathlib.Core.Bool.{Bool, true, false}
@@ -8,7 +9,6 @@ use lib.ListN.{length}
 use native.Mathlib.Omega.{arith}
 use Rattle.words.specs.declared.Refusal.{Refusal}
 use Rattle.words.specs.declared.Verdict.TheVariants.{Given, Refused}
-use Rattle.words.specs.Answer.{if◌then◌else◌}
 use Rattle.report.specs.declared.Parts.{Parts}
 use Rattle.report.specs.AsCoded.Parts.{inputs_in, Lie}
 use Rattle.text.specs.Text.{text}

@@ -1,6 +1,7 @@
 -- What is left of a text, piece by piece, when the lines that begin with a space are left out: a piece leads from one place of a line to
 -- another, and of two pieces is left what is left of each. Digits are above the space, and so neither begin a line that goes nor end a line.
 -- Assumes nothing.
+use Rattle.std.specs.Prelude.{if◌then◌else◌}
 use Prim.Native.Nat.{ℕ, zero, suc, ◌+◌, ◌/◌, ◌%◌, ◌<◌}
 use mathlib.Core.Path.{◌≡◌, refl, sym, ap, ◌∙◌, subst}
 use mathlib.Core.Bool.{Bool, true, false}
@@ -8,7 +9,6 @@ use mathlib.Core.List.{List, [], ◌∷◌, ◌++◌, append_assoc, append-nil}
 use lib.Dec.{ltb, eqb}
 use borrow.Author.Tests.{ne_eqb}
 use native.Mathlib.Omega.{arith}
-use Rattle.words.specs.Answer.{if◌then◌else◌}
 use Rattle.text.specs.Text.{digit, digits, decimal_length, decimal, hex8}
 use Rattle.outlining.specs.Stripped.{Where, start, kept, dropped, after_kept, after_dropped, stripped_from, stripped}
 

@@ -8,7 +8,7 @@ use lib.ListN.{length}
 use borrow.Author.Tests.{ne_eqb}
 use native.Mathlib.Omega.{arith}
 use Rattle.words.specs.Answer.{Res, ok, refuse, either}
-use Rattle.unwinding.specs.AsCoded.Turn as Any
+use Rattle.unwinding.specs.AsCoded.Turn as General
 use Rattle.frame.specs.Frame.{Inputs}
 use Rattle.walking.specs.Walk.{arm, Trail, walk}
 use Rattle.walking.specs.declared.Frame.{Frame}
@@ -60,7 +60,7 @@ parts-outlined s = go (report s)
   where
     go :
         (r : Res Report)
-        → flatten (either r (λ r. (refused_text r ++ text "\n") ∷ []) (λ p. parts_at p.inputs (Any.begun arm p.regs)))
+        → flatten (either r (λ r. (refused_text r ++ text "\n") ∷ []) (λ p. parts_at p.inputs (General.begun arm p.regs)))
         ≡ either r (λ r. refused_text r ++ text "\n") (λ p. outlined_walk p.inputs (walk p.inputs 256 p.regs))
     go (ok p) = headed p.inputs (walk p.inputs 256 p.regs).frames (walk p.inputs 256 p.regs)
     go (refuse r) = append-nil (refused_text r ++ text "\n")

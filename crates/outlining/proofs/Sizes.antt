@@ -1,5 +1,6 @@
 -- The largest part: a heading, a frame's line or the last one, and the regions of one record.
 -- Assumes nothing.
+use Rattle.std.specs.Prelude.{if◌then◌else◌}
 use Prim.Native.Nat.{ℕ, ◌+◌, ◌≤◌, ◌<◌}
 use mathlib.Core.Bool.{Bool, true, false}
 use mathlib.Core.List.{List, [], ◌++◌}
@@ -10,7 +11,7 @@ use native.Mathlib.Omega.{arith}
 use Rattle.words.specs.Bits.{bits}
 use Rattle.words.specs.declared.Place.{Place}
 use Rattle.words.specs.declared.Place.TheVariants.{Leaf, Prologue, Body, Epilogue}
-use Rattle.words.specs.Answer.{Res, ok, refuse, if◌then◌else◌}
+use Rattle.words.specs.Answer.{Res, ok, refuse}
 use Rattle.pdata.specs.declared.Entry.{Entry}
 use Rattle.pdata.specs.Pdata.{find}
 use Rattle.frame.specs.Frame.{Inputs}

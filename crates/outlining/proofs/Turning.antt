@@ -1,12 +1,12 @@
 -- The parts of an outline, turn by turn: a turn of the walk gives the first of those that are left.
 -- Assumes nothing.
+use Rattle.std.specs.Prelude.{if◌then◌else◌}
 use Prim.Native.Nat.{ℕ, suc, ◌+◌, ◌-◌, ◌≤◌}
 use mathlib.Core.Path.{◌≡◌, refl, sym, ap, ◌∙◌, subst}
 use mathlib.Core.Bool.{Bool, true, false}
 use mathlib.Core.List.{List, [], ◌∷◌, ◌++◌, append_assoc, append-nil}
 use native.Mathlib.Omega.{arith}
-use Rattle.words.specs.Answer.{if◌then◌else◌}
-use Rattle.unwinding.specs.AsCoded.Turn as Any
+use Rattle.unwinding.specs.AsCoded.Turn as General
 use Rattle.unwinding.specs.Trail as AnyTrail
 use Rattle.unwinding.proofs.Turns.{Turns, turns}
 use Rattle.unwinding.proofs.Looping as Loop
@@ -32,14 +32,14 @@ unfolding parts_from
 carried t n k m [] w v p q = rw (p, q)
 carried t n k m (f ∷ fs) w v p q = ap (λ y. (opening n ++ outlined_frame t n f) ∷ y) (carried t (n + 1) k m fs w v p q)
 
-module _ (t : Inputs) (s : Any.Standing arm) (r : Any.Turn arm) (e : Turns arm (frames t) 256 s r) where
+module _ (t : Inputs) (s : General.Standing arm) (r : General.Turn arm) (e : Turns arm (frames t) 256 s r) where
   -- a turn that goes on: its frame, and what is left from where the walk stands then
   module _ (o : r.on ≡ true) where
     abbrev on : Onward arm (frames t) 256 s r
     on = onward arm (frames t) e o
 
-    abbrev after : Any.Standing arm
-    after = (Any.gone arm s on.caller).next
+    abbrev after : General.Standing arm
+    after = (General.gone arm s on.caller).next
 
     pub turn-further : r.next.frames ≡ s.frames + 1
     turn-further = rw on.is
@@ -58,7 +58,7 @@ module _ (t : Inputs) (s : Any.Standing arm) (r : Any.Turn arm) (e : Turns arm (
     pub turn_on : parts_at t s ≡ (opening s.frames ++ outlined_frame t s.frames r.frame) ∷ parts_at t r.next
     unfolding parts_from
     turn_on =
-        let f = opening s.frames ++ outlined_frame t s.frames (Any.gone arm s on.caller).frame in
+        let f = opening s.frames ++ outlined_frame t s.frames (General.gone arm s on.caller).frame in
         rw on.is
         (ap (λ (w : Trail). parts_from t s.frames s.codes w.frames w) rest-on
         ∙ ap (λ y. f ∷ y) (carried t (s.frames + 1) s.codes (s.codes + arm.codes on.caller) (rest_of t after).frames _ (rest_of t after) refl (omega arith)))
@@ -77,11 +77,11 @@ stand_of a = record { sp = a.regs.sp; lr = a.regs.lr; pc = a.regs.pc; end = a.en
 
 -- a turn in place prints the first of the parts that are left
 module _ (t : Inputs) (a : At) (h : Stands t a) (p : Standing) (q : p ≡ stand_of a) (x : Going) (r d : List ℕ) (g : Goes t 256 (stands p a.regs.r a.regs.d) x r d) where
-  abbrev s : Any.Standing arm
+  abbrev s : General.Standing arm
   s = standing_at a
 
-  abbrev T : Any.Turn arm
-  T = Any.turn_of arm (frames t) 256 s
+  abbrev T : General.Turn arm
+  T = General.turn_of arm (frames t) 256 s
 
   goes : Goes t 256 s x r d
   goes = subst (λ (y : Standing). Goes t 256 (stands y a.regs.r a.regs.d) x r d) q g
@@ -92,7 +92,7 @@ module _ (t : Inputs) (a : At) (h : Stands t a) (p : Standing) (q : p ≡ stand_
       rw o
       (turn_on t s T (turns arm (frames t) 256 s) (sym goes.on ∙ o)
       ∙ ap (λ (f : Frame). (opening n ++ outlined_frame t n f) ∷ parts_at t T.next) (sym goes.frame)
-      ∙ ap (λ (y : Any.Standing arm). (opening n ++ outlined_frame t n x.frame) ∷ parts_at t y) (sym (goes.next o))
+      ∙ ap (λ (y : General.Standing arm). (opening n ++ outlined_frame t n x.frame) ∷ parts_at t y) (sym (goes.next o))
       ∙ ap (λ y. y ∷ parts_at t (stands x.next r d)) (sym (append_assoc (opening n) (frame_line n x.frame) (region_lines t x.frame))))
   told false o =
       rw (o, goes.stop, append-nil) (turn-off t s T (turns arm (frames t) 256 s) h.room (sym goes.on ∙ o))
@@ -105,7 +105,7 @@ module _ (t : Inputs) (a : At) (h : Stands t a) (p : Standing) (q : p ≡ stand_
         checks = h.checks;
         table = h.table;
         small = rw (goes.next o) (turn_small t s T e on h.small);
-        room = subst (λ (y : Any.Standing arm). y.frames ≤ 256) (sym (goes.next o)) (turn-room t s T e on);
+        room = subst (λ (y : General.Standing arm). y.frames ≤ 256) (sym (goes.next o)) (turn-room t s T e on);
       }
 
   pub turn-writes : {b z : List ℕ} {i n : ℕ} → Laid b i (turn_part t p x) n z → TurnWrites t a b i (record { place = n; on = x.on; next = next_at a x.next r d }) z
@@ -116,7 +116,7 @@ module _ (t : Inputs) (a : At) (h : Stands t a) (p : Standing) (q : p ≡ stand_
     short = part_length t (stand_of a) x (omega (arith, h.room));
     same = refl;
     stands = next-stands;
-    further = λ o. ap (λ (y : Any.Standing arm). y.frames) (goes.next o) ∙ turn-further t s T (turns arm (frames t) 256 s) (sym goes.on ∙ o);
+    further = λ o. ap (λ (y : General.Standing arm). y.frames) (goes.next o) ∙ turn-further t s T (turns arm (frames t) 256 s) (sym goes.on ∙ o);
   }
     where
       laid : Laid b i (turn_part t (stand_of a) x) n z

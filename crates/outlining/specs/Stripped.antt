@@ -1,7 +1,6 @@
 -- A text without the lines that begin with a space: what `grep -v '^ '` leaves. Of an outline it leaves the listing (RULES 8.17;
 -- `stripped-listing` of proofs/Stripping.antt).
-use Rattle.std.specs.Prelude.{ℕ, List, [], ◌∷◌, eqb}
-use Rattle.words.specs.Answer.{if◌then◌else◌}
+use Rattle.std.specs.Prelude.{ℕ, List, [], ◌∷◌, eqb, if◌then◌else◌}
 
 -- where a text stands: at the start of a line, in a line that is kept, in one that is left out
 pub data Where : Type 0 where

@@ -25,7 +25,7 @@ pub const OUTLINE_BYTES: usize = 2747253;
 
 // Where an outline stands: the report's parts, what its tables showed to a walk, and the .pdata to finding; the registers, whether their pc 0
 // ends the walk, the frames so far and the sum of their codes.
-#[derive(Drop)]
+#[derive(Clone, Copy)]
 pub struct At {
     pub parts: Parts,
     pub checked: Checked,
@@ -37,7 +37,7 @@ pub struct At {
 }
 
 // A part that was laid: the place behind it in the buffer, whether another one follows, and where the outline stands then.
-#[derive(Drop)]
+#[derive(Clone, Copy)]
 pub struct Part {
     pub place: usize,
     pub on: bool,
@@ -45,7 +45,7 @@ pub struct Part {
 }
 
 // A report that was read, and where its outline begins.
-#[derive(Drop)]
+#[derive(Clone, Copy)]
 pub struct Begun {
     pub verdict: Verdict,
     pub at: At,

@@ -1,5 +1,6 @@
 -- The integer lists of packed words: their ranges, and that none has more than r0 to r12 beside LR.
 -- Assumes nothing.
+use Rattle.std.specs.Prelude.{if◌then◌else◌}
 use Prim.Native.Nat.{ℕ, ◌+◌, ◌-◌, ◌*◌, ◌%◌, ◌^◌, ◌≤◌, ◌<◌}
 use mathlib.Core.Path.{◌≡◌, sym, ap, ◌∙◌}
 use mathlib.Core.Bool.{Bool, true, false}
@@ -7,7 +8,6 @@ use lib.Pow.{pow_pos}
 use lib.Dec.{eqb}
 use native.Mathlib.Omega.{arith}
 use Rattle.words.specs.Bits.{bits}
-use Rattle.words.specs.Answer.{if◌then◌else◌}
 use Rattle.codes.specs.Table.{range, lr_if}
 use Rattle.codes.proofs.Registers.{RegisterList, range-r4, joined-others, made-lr, made_list}
 use Rattle.packed.specs.Packed.{Fit, fields, integers}

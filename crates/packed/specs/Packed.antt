@@ -4,12 +4,12 @@
 --  | Stack Adjust | C| L| R| Reg  | H|  Ret | length / 2 | Flag |
 --
 -- Flag is 1, or 2 if there is no prologue (RULES 2.2).
-use Rattle.std.specs.Prelude.{ℕ, ◌+◌, ◌-◌, ◌*◌, ◌%◌, ◌^◌, ◌<◌, Bool, ◌&&◌, ◌||◌, not, leb, ltb, eqb}
+use Rattle.std.specs.Prelude.{ℕ, ◌+◌, ◌-◌, ◌*◌, ◌%◌, ◌^◌, ◌<◌, Bool, ◌&&◌, ◌||◌, not, leb, ltb, eqb, if◌then◌else◌}
 use Rattle.words.specs.declared.StackWords.{StackWords}
 use Rattle.words.specs.declared.Refusal.TheVariants.{Reserved}
 use Rattle.words.specs.Bits.{bits, bit}
 use Rattle.words.specs.Units.{halfwords, halfword_bytes, stack_words}
-use Rattle.words.specs.Answer.{Res, ok, need, if◌then◌else◌, verdict, or_else, ◌>>◌}
+use Rattle.words.specs.Answer.{Res, ok, need, verdict, or_else, ◌>>◌}
 use Rattle.codes.specs.Table.{range}
 use Rattle.packed.specs.declared.Packed.{Packed}
 use Rattle.packed.specs.declared.WordOf.{WordOf}

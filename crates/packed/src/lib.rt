@@ -2,9 +2,8 @@
 // values nor the stack.
 #![tactic(auto)]
 
-ghost use Rattle.std.specs.Prelude.{◌≡◌, ◌+◌, ◌-◌, ◌*◌, ◌%◌, ◌^◌, ◌<◌, ◌≤◌, eqb};
+ghost use Rattle.std.specs.Prelude.{◌≡◌, ◌+◌, ◌-◌, ◌*◌, ◌%◌, ◌^◌, ◌<◌, ◌≤◌, eqb, if◌then◌else◌};
 ghost use Rattle.codes.specs.Table.{range as range_of, lr_if as spec_lr_if};
-ghost use Rattle.words.specs.Answer.{if◌then◌else◌};
 ghost use Rattle.packed.specs.Packed.{Fit, fields as fields_of, fields_fit as spec_fields_fit, allowed as allowed_of, word_of, write_word as spec_write_word, word_answer, folded as folded_of, amount as amount_of, PF, EF, integers as integers_of};
 
 use codes::list::{from_r4, lr_if, range};

@@ -1,5 +1,6 @@
 -- The code bytes of a packed word are its two lists, the prologue's in reverse and the epilogue's, each up to its end code, then zeros.
 -- Assumes nothing.
+use Rattle.std.specs.Prelude.{if◌then◌else◌}
 use Prim.Native.Nat.{ℕ, zero, suc, ◌+◌, ◌-◌, ◌≤◌, ◌<◌}
 use mathlib.Core.Path.{◌≡◌, refl, sym, ap, ap₂, subst, ◌∙◌}
 use mathlib.Core.List.{List, [], ◌∷◌, ◌++◌, append_assoc, append-nil, reverse, reverse-append}
@@ -14,7 +15,7 @@ use Rattle.words.specs.Units.{code_bytes, halfwords, halfword_bytes}
 use Rattle.words.specs.declared.Halfwords.{Halfwords}
 use Rattle.words.specs.declared.Refusal.TheVariants.{BadCodes}
 use Rattle.words.proofs.Tests.{both}
-use Rattle.words.specs.Answer.{Res, ok, refuse, if◌then◌else◌, ◌>>=◌}
+use Rattle.words.specs.Answer.{Res, ok, refuse, ◌>>=◌}
 use Rattle.unwinding.specs.CodeList.{Codes}
 use Rattle.codes.specs.Table.{rows, row_in, bits32}
 use Rattle.unwinding.specs.Taking.{Scan, scan_from}

@@ -1,5 +1,6 @@
 -- Each list of a packed word takes at most 8 bytes, so both fit 16.
 -- Assumes nothing.
+use Rattle.std.specs.Prelude.{if◌then◌else◌}
 use Prim.Native.Nat.{ℕ, ◌+◌, ◌≤◌}
 use mathlib.Core.List.{List, [], ◌∷◌, ◌++◌}
 use mathlib.Core.Bool.{Bool, true, false, not, ◌&&◌}
@@ -8,7 +9,6 @@ use lib.ListN.{length, length-append}
 use lib.Dec.{leb, eqb}
 use native.Mathlib.Omega.{arith}
 use Rattle.words.specs.declared.StackWords.{StackWords}
-use Rattle.words.specs.Answer.{if◌then◌else◌}
 use Rattle.packed.specs.Packed.{amount, PF, EF, integers}
 use Rattle.packed_codes.specs.PackedCodes.{when, up_code, vpop_code, up_to, d_form, pop_code, low, pushed, chain_code, first_list, leave, second_list}
 use Rattle.packed_codes.specs.Chain.{first_before}

@@ -1,5 +1,6 @@
 -- The codes that a packed word's lists are made of, by what its fields are.
 -- Assumes nothing.
+use Rattle.std.specs.Prelude.{if◌then◌else◌}
 use Prim.Native.Nat.{ℕ, suc, ◌+◌, ◌-◌, ◌*◌, ◌%◌, ◌≤◌, ◌<◌}
 use mathlib.Core.Path.{◌≡◌, refl}
 use mathlib.Core.List.{List, [], ◌∷◌, ◌++◌}
@@ -10,7 +11,6 @@ use native.Mathlib.Omega.{arith}
 use borrow.Author.Tests.{lt-ltb, le-ltb, eq-eqb, ne_eqb}
 use Rattle.words.specs.Bits.{bits}
 use Rattle.words.specs.Units.{stack_words}
-use Rattle.words.specs.Answer.{if◌then◌else◌}
 use Rattle.codes.specs.Table.{range, lr_if}
 use Rattle.packed.specs.Packed.{Fit, fields, amount, folded, EF, integers}
 use Rattle.packed.proofs.Words.{fields_fit_lem}

@@ -1,5 +1,6 @@
 -- Code bytes that hold whole codes: what they are read as, whatever follows them; and those of a list up to its end code.
 -- Assumes nothing.
+use Rattle.std.specs.Prelude.{if◌then◌else◌}
 use Prim.Native.Nat.{ℕ, zero, suc, ◌+◌, ◌*◌, ◌/◌, ◌%◌, ◌^◌, ◌≤◌, ◌<◌}
 use mathlib.Core.Path.{◌≡◌, refl, sym, ap, ap₂, ◌∙◌}
 use mathlib.Core.List.{List, [], ◌∷◌, ◌++◌, append_assoc}
@@ -12,7 +13,7 @@ use borrow.Author.Tests.{leb-true, le-leb, lt-leb, eqb-true}
 use Rattle.words.specs.Bits.{bits}
 use Rattle.words.specs.Units.{code_bytes, stack_words, halfword_bytes}
 use Rattle.words.specs.declared.Halfwords.{Halfwords}
-use Rattle.words.specs.Answer.{ok, if◌then◌else◌}
+use Rattle.words.specs.Answer.{ok}
 use Rattle.codes.specs.Table.{Row, row, rows, row_in, row_of, range, lr_if, bits16, bits32}
 use Rattle.unwinding.specs.Taking.{one, Scan, scan_from}
 use Rattle.unwinding.proofs.Scanning.{scan-front}

@@ -1,10 +1,10 @@
 -- A packed word's two code lists by their instructions, the prologue's (RULES 4.6) and the epilogue's (RULES 4.7): what undoes each, and
 -- its size. And what code bytes have to be to stand for them.
-use Rattle.std.specs.Prelude.{ℕ, ◌+◌, ◌-◌, ◌≡◌, ◌≢◌, List, ◌∷◌, ◌++◌, reverse, [], Bool, true, false, ◌&&◌, not, length, take, drop, replicate, leb, eqb}
+use Rattle.std.specs.Prelude.{ℕ, ◌+◌, ◌-◌, ◌≡◌, ◌≢◌, List, ◌∷◌, ◌++◌, reverse, [], Bool, true, false, ◌&&◌, not, length, take, drop, replicate, leb, eqb, if◌then◌else◌}
 use Rattle.words.specs.Units.{code_bytes, stack_words, halfword_bytes}
 use Rattle.words.specs.declared.CodeBytes.{CodeBytes}
 use Rattle.words.specs.declared.Halfwords.{Halfwords}
-use Rattle.words.specs.Answer.{ok, if◌then◌else◌}
+use Rattle.words.specs.Answer.{ok}
 use Rattle.unwinding.specs.CodeList.{Codes}
 use Rattle.codes.specs.Table.{lr_if, bits16, bits32}
 use Rattle.codes.specs.Code.{codes_at}

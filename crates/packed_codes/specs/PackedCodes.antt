@@ -1,10 +1,10 @@
 -- The code bytes that a packed word stands for: the prologue's codes in reverse, then the epilogue's in its order (RULES 4.16).
-use Rattle.std.specs.Prelude.{ℕ, zero, suc, ◌+◌, ◌*◌, ◌/◌, ◌%◌, ◌^◌, List, ◌∷◌, ◌++◌, [], Bool, true, false, ◌&&◌, not, length, take, replicate, leb, ltb, eqb}
+use Rattle.std.specs.Prelude.{ℕ, zero, suc, ◌+◌, ◌*◌, ◌/◌, ◌%◌, ◌^◌, List, ◌∷◌, ◌++◌, [], Bool, true, false, ◌&&◌, not, length, take, replicate, leb, ltb, eqb, if◌then◌else◌}
 use Rattle.std.proofs.Math.Option.{Option, none, some}
 use Rattle.words.specs.declared.StackWords.{StackWords}
 use Rattle.words.specs.declared.Refusal.TheVariants.{Reserved}
 use Rattle.words.specs.Units.{code_bytes}
-use Rattle.words.specs.Answer.{Res, ok, refuse, need, if◌then◌else◌, ◌>>◌}
+use Rattle.words.specs.Answer.{Res, ok, refuse, need, ◌>>◌}
 use Rattle.codes.specs.Table.{range, lr_if}
 use Rattle.words.specs.declared.Verdict.TheVariants.{Given, Refused}
 use Rattle.packed.specs.Packed.{fields, allowed, integers, amount, PF, EF}

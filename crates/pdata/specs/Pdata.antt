@@ -1,11 +1,11 @@
 -- The .pdata: records of two words, a function's start and its record or the way to one (RULES 2.1), in order (RULES 2.3); and finding in
 -- it (RULES 2.5, 9.55).
-use Rattle.std.specs.Prelude.{ℕ, zero, suc, ◌+◌, ◌-◌, ◌*◌, ◌/◌, ◌%◌, List, ◌∷◌, map, [], length, leb, eqb}
+use Rattle.std.specs.Prelude.{ℕ, zero, suc, ◌+◌, ◌-◌, ◌*◌, ◌/◌, ◌%◌, List, ◌∷◌, map, [], length, leb, eqb, if◌then◌else◌}
 use Rattle.std.proofs.Math.Option.{Option, none, some}
 use Rattle.words.specs.Bits.{even}
 use Rattle.lent.specs.Little.{word32}
 use Rattle.words.specs.declared.Refusal.TheVariants.{UnfitInput, PcBelowBase, StartsNotAscending}
-use Rattle.words.specs.Answer.{Res, ok, need, if◌then◌else◌, either, maybe, ◌>>◌}
+use Rattle.words.specs.Answer.{Res, ok, need, either, maybe, ◌>>◌}
 use Rattle.unwinding.specs.View.{ascending}
 use Rattle.pdata.specs.declared.Entry.{Entry}
 use Rattle.pdata.specs.declared.Found.{Found}

@@ -1,7 +1,7 @@
 // The epilogues of a record in one pass: what refusals 6 and 7 ask of them, and the number of the one that an offset falls into.
-ghost use Rattle.std.specs.Prelude.{◌≡◌, ◌&&◌, ◌||◌, ◌+◌, ◌^◌, ◌≤◌, ◌<◌, leb, ltb, length};
+ghost use Rattle.std.specs.Prelude.{◌≡◌, ◌&&◌, ◌||◌, ◌+◌, ◌^◌, ◌≤◌, ◌<◌, leb, ltb, length, if◌then◌else◌};
 ghost use Rattle.words.specs.Units.{code_bytes, halfwords, halfword_bytes as spec_halfword_bytes};
-ghost use Rattle.words.specs.Answer.{verdict, if◌then◌else◌};
+ghost use Rattle.words.specs.Answer.{verdict};
 ghost use Rattle.unwinding.specs.View.{view};
 ghost use Rattle.unwinding.specs.AsCoded.Lined.{next, reach_of as spec_reach_of};
 ghost use Rattle.unwinding.specs.Shape.{start_of};

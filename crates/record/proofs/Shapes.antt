@@ -1,6 +1,7 @@
 -- The plan of a record is its shape: refused where the definition's shape is, and else the same shape of the plan, the code bytes and the
 -- .xdata; the code bytes lie inside it.
 -- Assumes nothing.
+use Rattle.std.specs.Prelude.{if◌then◌else◌}
 use Prim.Native.Nat.{ℕ, zero, suc, ◌+◌, ◌-◌, ◌*◌, ◌≤◌, ◌<◌}
 use Rattle.words.proofs.Answers.{ok_same}
 use mathlib.Core.Path.{subst, ◌≡◌, refl, sym, ap, ap₂, ◌∙◌}
@@ -19,7 +20,7 @@ use Rattle.words.specs.declared.Refusal.TheVariants.{Reserved}
 use Rattle.words.specs.declared.CodeBytes.{CodeBytes}
 use Rattle.words.specs.declared.Verdict.{Verdict}
 use Rattle.words.specs.declared.Verdict.TheVariants.{Given, Refused}
-use Rattle.words.specs.Answer.{verdict, Res, ok, refuse, need, ◌>>◌, ◌>>=◌, if◌then◌else◌}
+use Rattle.words.specs.Answer.{verdict, Res, ok, refuse, need, ◌>>◌, ◌>>=◌}
 use Rattle.unwinding.specs.Shape.{Shape}
 use Rattle.unwinding.specs.declared.Scope.{Scope}
 use Rattle.xdata.specs.Xdata.{E, F, scope_count, codes_offset, record_bytes, head_at}

@@ -1,10 +1,10 @@
 -- The shape of a.pdata record, full (RULES 2.6 to 2.12) or packed (RULES 4.17).
-use Rattle.std.specs.Prelude.{ℕ, ◌+◌, ◌-◌, List, ◌∷◌, [], take, drop, eqb}
+use Rattle.std.specs.Prelude.{ℕ, ◌+◌, ◌-◌, List, ◌∷◌, [], take, drop, eqb, if◌then◌else◌}
 use Rattle.words.specs.Bits.{bits}
 use Rattle.lent.specs.Lent.{Lent}
 use Rattle.words.specs.Units.{code_bytes, code_word_bytes}
 use Rattle.words.specs.declared.CodeBytes.{CodeBytes}
-use Rattle.words.specs.Answer.{Res, ok, if◌then◌else◌, ◌>>=◌}
+use Rattle.words.specs.Answer.{Res, ok, ◌>>=◌}
 use Rattle.unwinding.specs.Shape.{Shape}
 use Rattle.unwinding.specs.declared.Scope.{Scope}
 use Rattle.codes.specs.Condition.{always}

@@ -2,9 +2,9 @@
 // stack.
 #![tactic(auto)]
 
-ghost use Rattle.std.specs.Prelude.{◌≡◌, ◌+◌, ◌-◌, ◌≤◌, ◌<◌, eqb, length};
+ghost use Rattle.std.specs.Prelude.{◌≡◌, ◌+◌, ◌-◌, ◌≤◌, ◌<◌, eqb, length, if◌then◌else◌};
 ghost use Rattle.lent.specs.Lent.{lent};
-ghost use Rattle.words.specs.Answer.{refuse, verdict, if◌then◌else◌};
+ghost use Rattle.words.specs.Answer.{refuse, verdict};
 ghost use Rattle.record.specs.Record.{shape_at};
 ghost use Rattle.packed.specs.Packed.{Fit};
 ghost use Rattle.xdata.specs.Xdata.{E, codes_offset as spec_codes_offset};

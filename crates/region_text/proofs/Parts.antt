@@ -1,6 +1,7 @@
 -- What one region and one list print, put together: a list that goes on prints its first region and then the rest of itself, and the inner
 -- regions of a region are the list of those that its range covers.
 -- Assumes nothing.
+use Rattle.std.specs.Prelude.{if◌then◌else◌}
 use Prim.Native.Nat.{ℕ, ◌+◌, ◌^◌, ◌≤◌, ◌<◌}
 use mathlib.Core.Path.{◌≡◌, refl, sym, ap, ap₂, ◌∙◌}
 use mathlib.Core.Bool.{Bool, true, false}
@@ -9,7 +10,6 @@ use lib.ListN.{length, drop, drop_of_length-le}
 use lib.Seq.{drop-cons}
 use native.Mathlib.Numerals.{add-one}
 use native.Mathlib.Omega.{arith}
-use Rattle.words.specs.Answer.{if◌then◌else◌}
 use Rattle.text.specs.Overlay.{Laid}
 use Rattle.text.proofs.Overlaid as Overlaid
 use Rattle.text.proofs.Overlaid.{joined, laid_as}

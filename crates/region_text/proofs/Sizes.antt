@@ -1,13 +1,14 @@
 -- The largest outline: how much room a frame's regions need. A table has at most 64 regions, each stands in the outline once, and a region
 -- stands no deeper than there are regions.
 -- Assumes nothing.
-use Prim.Native.Nat.{ℕ, zero, suc, ◌+◌, ◌-◌, ◌*◌, ◌%◌, ◌≤◌}
+use Rattle.std.specs.Prelude.{if◌then◌else◌}
+use Prim.Native.Nat.{ℕ, suc, ◌+◌, ◌-◌, ◌*◌, ◌%◌, ◌≤◌}
 use mathlib.Core.Path.{◌≡◌, refl, ap, ◌∙◌}
 use mathlib.Core.Bool.{Bool, true, false}
 use mathlib.Core.List.{List, [], ◌∷◌, ◌++◌}
 use lib.ListN.{length, length-append, length-replicate}
 use native.Mathlib.Omega.{arith}
-use Rattle.words.specs.Answer.{Res, ok, refuse, if◌then◌else◌, either}
+use Rattle.words.specs.Answer.{Res, ok, refuse, either}
 use Rattle.lent.specs.Lent.{Lent, word_at}
 use Rattle.xdata.specs.Xdata.{handled, xdata_size}
 use Rattle.regions.specs.declared.Region.{Region}

@@ -3,8 +3,7 @@
 --     - 00001010 00001016 00003001 00001070
 --     * 00001018 00001030 00003001 00001080
 --       * 0000101a 00001020 00003009 00001090
-use Rattle.std.specs.Prelude.{ℕ, ◌+◌, ◌*◌, List, [], ◌++◌, replicate}
-use Rattle.words.specs.Answer.{if◌then◌else◌}
+use Rattle.std.specs.Prelude.{ℕ, ◌+◌, ◌*◌, List, [], ◌++◌, replicate, if◌then◌else◌}
 use Rattle.text.specs.Text.{text, decimal, hex8}
 use Rattle.regions.specs.declared.Region.{Region}
 use Rattle.regions.specs.declared.RegionRefusal.{RegionRefusal}

@@ -14,7 +14,7 @@ use regions::{Region, RegionRefusal, RegionVerdict};
 use text::{put_addresses, put_byte, put_count, put_hex8, put_text};
 
 // The place behind a list that was printed, in the buffer and in the order of regions.
-#[derive(Drop)]
+#[derive(Clone, Copy)]
 struct Put {
     at: usize,
     next: usize,

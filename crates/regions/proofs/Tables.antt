@@ -1,5 +1,6 @@
 -- A region table by what its tests say; a table that is given lies in the .xdata, and it lists the regions of RULES 2.14.
 -- Assumes nothing.
+use Rattle.std.specs.Prelude.{if◌then◌else◌}
 use Prim.Native.Nat.{ℕ, ◌+◌, ◌-◌, ◌*◌, ◌%◌, ◌≤◌, ◌<◌}
 use mathlib.Core.Path.{◌≡◌, refl, sym, ap, ◌∙◌}
 use mathlib.Core.Bool.{Bool, true, false, ◌&&◌}
@@ -9,7 +10,7 @@ use native.Mathlib.Omega.{arith}
 use borrow.Author.Tests.{leb-true, le-leb, lt-leb}
 use Rattle.words.specs.declared.Refusal.{Refusal}
 use Rattle.words.specs.declared.Verdict.TheVariants as Verdict
-use Rattle.words.specs.Answer.{Res, ok, refuse, if◌then◌else◌, either}
+use Rattle.words.specs.Answer.{Res, ok, refuse, either}
 use Rattle.words.proofs.Answers.{need-ok}
 use Rattle.words.proofs.Tests.{both, and-true, and-false}
 use Rattle.lent.specs.Lent.{Lent, end, holds, word_at}

@@ -1,9 +1,8 @@
 -- A guarded region: a record of four words in the table behind a handler (RULES 2.14).
 --
 --   begin | end | handler | target       all RVA; it holds the RVAs from begin on that are below end
-use Rattle.std.specs.Prelude.{ℕ, zero, suc, ◌+◌, ◌*◌, List, [], ◌∷◌, Bool, ◌&&◌, ◌||◌, not, true, leb, ltb, eqb}
+use Rattle.std.specs.Prelude.{ℕ, zero, suc, ◌+◌, ◌*◌, List, [], ◌∷◌, Bool, ◌&&◌, ◌||◌, not, true, leb, ltb, eqb, if◌then◌else◌}
 use Rattle.lent.specs.Little.{word32}
-use Rattle.words.specs.Answer.{if◌then◌else◌}
 use Rattle.regions.specs.declared.Region.{Region}
 
 -- the region of a number whose words stand from an offset on

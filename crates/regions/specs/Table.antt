@@ -1,7 +1,7 @@
 -- The region table of an .xdata record (RULES 2.14): with X=1 a count word stands behind the handler word, and then so many regions.
-use Rattle.std.specs.Prelude.{ℕ, ◌+◌, ◌-◌, ◌*◌, ◌%◌, List, [], Bool, ◌&&◌, leb}
+use Rattle.std.specs.Prelude.{ℕ, ◌+◌, ◌-◌, ◌*◌, ◌%◌, List, [], Bool, ◌&&◌, leb, if◌then◌else◌}
 use Rattle.words.specs.Refusals.{number}
-use Rattle.words.specs.Answer.{if◌then◌else◌, either}
+use Rattle.words.specs.Answer.{either}
 use Rattle.lent.specs.Lent.{Lent, holds, word_at}
 use Rattle.xdata.specs.Xdata.{handled, xdata_size}
 use Rattle.regions.specs.declared.Region.{Region}

@@ -3,7 +3,7 @@ use Rattle.std.specs.Prelude.{ℕ, zero, suc, ◌+◌, ◌*◌, List, [], ◌∷
 use Rattle.lent.specs.Little.{word32, word64}
 use Rattle.lent.specs.Parts.{same, part}
 use Rattle.words.specs.declared.Refusal.TheVariants.{UnfitReport}
-use Rattle.words.specs.Answer.{Res, ok, ◌>>=◌, ◌>>◌, need}
+use Rattle.words.specs.Answer.{Res, ok, ◌>>◌, need}
 use Rattle.machine.specs.declared.Regs.{Regs}
 use Rattle.frame.specs.Frame.{Inputs, inputs}
 

@@ -18,7 +18,7 @@ pub const REPORT_BYTES: usize = 65536;
 const HEAD_BYTES: usize = 352;
 
 // What a report holds: its words, and where its parts lie in the file, each up to where the next one starts. A refusal's values are zeros.
-#[derive(Drop)]
+#[derive(Clone, Copy)]
 pub struct Parts {
     pub verdict: Verdict,
     pub image: u32,

@@ -1,9 +1,8 @@
 -- Text as bytes: words, and numbers in decimal and in lower-case hexadecimal (RULES 8.4).
-use Rattle.std.specs.Prelude.{ℕ, zero, suc, ◌+◌, ◌/◌, ◌%◌, List, [], ◌∷◌, ◌++◌, ltb}
+use Rattle.std.specs.Prelude.{ℕ, zero, suc, ◌+◌, ◌/◌, ◌%◌, List, [], ◌∷◌, ◌++◌, ltb, if◌then◌else◌}
 use Prim.Native.Char.{code}
 use Prim.Native.String.{String}
 use Prim.Native.String as Native
-use Rattle.words.specs.Answer.{if◌then◌else◌}
 
 abbrev pub text : String → List ℕ
 text Native.[] = []

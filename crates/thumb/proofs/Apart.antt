@@ -1,6 +1,7 @@
 -- No number is in two rows of 16 bits, and none in two of 32 bits but for a push of one register, which is a store of it, and a pop of one,
 -- which is a load: for these alone it matters which row comes first.
 -- Assumes nothing.
+use Rattle.std.specs.Prelude.{if◌then◌else◌}
 use Prim.Native.Nat.{ℕ, ◌+◌, ◌*◌, ◌/◌, ◌%◌, ◌<◌, ◌≤◌, min}
 use mathlib.Core.Path.{◌≡◌, refl, sym, ap, ap₂, ◌∙◌}
 use mathlib.Core.Bool.{Bool, true, false, ◌&&◌, ◌||◌, not}
@@ -10,7 +11,6 @@ use lib.Bits.{bit_and, and_step}
 use lib.Dec.{T, eqb}
 use native.Mathlib.Omega.{arith}
 use borrow.Author.Tests.{eqb-true, eq-eqb}
-use Rattle.words.specs.Answer.{if◌then◌else◌}
 use Rattle.words.proofs.Tests.{T-both}
 use Rattle.thumb.specs.Rows.{Row, rows16, rows_more, rows32, is_for}
 

@@ -1,11 +1,11 @@
 -- How many registers: those that a list names, one register more at a time; and some d registers are one at least.
 -- Assumes nothing.
+use Rattle.std.specs.Prelude.{if◌then◌else◌}
 use Prim.Native.Nat.{ℕ, suc, ◌+◌, ◌-◌, ◌≤◌}
 use mathlib.Core.Path.{◌≡◌, refl}
 use mathlib.Core.Bool.{true}
 use borrow.Author.Tests.{leb-true}
 use Rattle.words.specs.Bits.{bits}
-use Rattle.words.specs.Answer.{if◌then◌else◌}
 use Rattle.words.proofs.Tests.{both}
 use Rattle.thumb.specs.Rows.{count, some_d}
 use Rattle.thumb.specs.declared.Action.{Action}

@@ -1,7 +1,6 @@
 -- The constants of 32-bit instructions (RULES 13.3).
-use Rattle.std.specs.Prelude.{ℕ, ◌+◌, ◌-◌, ◌*◌, ◌^◌, Bool, ◌&&◌, not, eqb}
+use Rattle.std.specs.Prelude.{ℕ, ◌+◌, ◌-◌, ◌*◌, ◌^◌, Bool, ◌&&◌, not, eqb, if◌then◌else◌}
 use Rattle.words.specs.Bits.{bits}
-use Rattle.words.specs.Answer.{if◌then◌else◌}
 
 -- the field i:imm3:imm8
 abbrev pub imm12 : ℕ → ℕ

@@ -1,7 +1,6 @@
 -- The instruction at an offset of a function's bytes (RULES 13.1). It has 16 bits if its first halfword is below 0xE800, and else 32.
-use Rattle.std.specs.Prelude.{ℕ, ◌+◌, ◌*◌, ◌^◌, List, length, leb, ltb}
+use Rattle.std.specs.Prelude.{ℕ, ◌+◌, ◌*◌, ◌^◌, List, length, leb, ltb, if◌then◌else◌}
 use Rattle.words.specs.Units.{halfwords}
-use Rattle.words.specs.Answer.{if◌then◌else◌}
 use Rattle.lent.specs.Little.{word16}
 use Rattle.thumb.specs.Rows.{rows16, rows32, action_in}
 use Rattle.thumb.specs.declared.Action.TheVariants.{Other}

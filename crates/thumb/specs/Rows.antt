@@ -1,9 +1,8 @@
 -- The instructions that unwind codes stand for, by their encodings in the ARM Architecture Reference Manual (RULES 13.2): those of 16 bits,
 -- and those of 32 bits as one number, the first halfword highest. An encoding that the manual calls unpredictable is no instruction.
-use Rattle.std.specs.Prelude.{ℕ, zero, suc, ◌+◌, ◌-◌, ◌*◌, ◌^◌, List, [], ◌∷◌, Bool, ◌&&◌, ◌||◌, not, leb, eqb}
+use Rattle.std.specs.Prelude.{ℕ, zero, suc, ◌+◌, ◌-◌, ◌*◌, ◌^◌, List, [], ◌∷◌, Bool, ◌&&◌, ◌||◌, not, leb, eqb, if◌then◌else◌}
 use Rattle.std.specs.Int.Bits.{bit_and}
 use Rattle.words.specs.Bits.{bit, bits}
-use Rattle.words.specs.Answer.{if◌then◌else◌}
 use Rattle.thumb.specs.Immediate.{imm12, expanded, unpredictable}
 use Rattle.thumb.specs.declared.Action.{Action}
 use Rattle.thumb.specs.declared.Action.TheVariants.{Push, Pop, Vpush, Vpop, SubSp, AddSp, Mov, Store, Load, Bx, Branch, Other}

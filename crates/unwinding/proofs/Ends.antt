@@ -1,6 +1,7 @@
 -- The end of a code list whose sizes add up to an amount: what is found is such an end; behind codes that have instructions it is found at
 -- each instruction boundary, and it is the only one.
 -- Assumes nothing.
+use Rattle.std.specs.Prelude.{if◌then◌else◌}
 use Prim.Native.Nat.{ℕ, ◌+◌, ◌<◌}
 use mathlib.Core.Path.{◌≡◌, refl, ap}
 use mathlib.Core.List.{List, ◌∷◌, ◌++◌, []}
@@ -9,7 +10,6 @@ use mathlib.Core.Option.{none, some}
 use lib.Dec.{eqb}
 use native.Mathlib.Omega.{arith}
 use borrow.Author.Tests.{eqb-true, eq-eqb, ne_eqb}
-use Rattle.words.specs.Answer.{if◌then◌else◌}
 use Rattle.unwinding.specs.CodeList.{total, end_of}
 use Rattle.unwinding.proofs.All.{Sized}
 

@@ -1,5 +1,6 @@
 -- Refusal 7 in one pass (specs/AsCoded/Lined.antt) is what comparing all pairs comes to.
 -- Assumes nothing.
+use Rattle.std.specs.Prelude.{if◌then◌else◌}
 use Prim.Native.Nat.{ℕ, ◌+◌, ◌≤◌, ◌<◌, min, max}
 use mathlib.Core.Path.{◌≡◌, refl, sym, ap, subst}
 use mathlib.Core.List.{List, ◌∷◌, map, []}
@@ -7,7 +8,6 @@ use mathlib.Core.Bool.{Bool, true, false, ◌&&◌, ◌||◌, not}
 use lib.Dec.{T, leb, ltb, leb→le, le→leb, ltb→lt, lt→ltb, not_T, T_not}
 use native.Mathlib.Omega.{arith}
 use borrow.Author.Tests.{leb-true, leb-false}
-use Rattle.words.specs.Answer.{if◌then◌else◌}
 use Rattle.words.proofs.Tests.{T-both as both, T_and as and, T-same as same}
 use Rattle.unwinding.specs.AsCoded.Lined.{empty, reach_of, next, lined}
 use Rattle.unwinding.specs.View.{EpilogueOf, Stretch, stretch, shared, inside, apart, all_apart, ascending, fits}

@@ -1,5 +1,6 @@
 -- The walk by turns is the walk: what holds wherever a loop begins a turn, how a turn keeps it, and what it says when the loop is left.
 -- Assumes nothing.
+use Rattle.std.specs.Prelude.{if◌then◌else◌}
 use Prim.Native.Nat.{ℕ, zero, suc, ◌+◌, ◌<◌}
 use mathlib.Core.Path.{◌≡◌, refl, sym, ap, ◌∙◌}
 use mathlib.Core.Bool.{true, false}
@@ -10,7 +11,7 @@ use lib.Dec.{eqb}
 use lib.ListN.{length, drop, set, get_or, length-append, length-set}
 use lib.Seq.{drop-cons, set_at}
 use borrow.Author.Tests.{ne_eqb}
-use Rattle.words.specs.Answer.{ok, if◌then◌else◌}
+use Rattle.words.specs.Answer.{ok}
 use Rattle.unwinding.specs.Trail.{Walker, FrameOf, Trail, stopped, listed, filled, next_frame, walk_from, walk}
 use Rattle.unwinding.specs.AsCoded.Turn.{Standing, Turn, Small, begun, gone}
 use Rattle.unwinding.proofs.Turns.{Turns, at-end, at-full, at-refusal, goes}

@@ -1,6 +1,7 @@
 -- Codes with more beside them: where codes of one kind have codes of another as a part, and both are taken alike, so are their lists, their
 -- epilogues and a record's view, but for that part.
 -- Assumes nothing.
+use Rattle.std.specs.Prelude.{if◌then◌else◌}
 use Prim.Native.Nat.{ℕ, zero, suc, ◌+◌, ◌-◌}
 use mathlib.Core.Path.{◌≡◌, refl, sym, ap, ap₂, ◌∙◌}
 use mathlib.Core.List.{List, [], ◌∷◌, map}
@@ -9,7 +10,7 @@ use Rattle.words.specs.Units.{code_bytes}
 use Rattle.words.specs.declared.CodeBytes.{CodeBytes}
 use Rattle.words.specs.declared.Refusal.{Refusal}
 use Rattle.words.specs.declared.Refusal.TheVariants.{BadLayout}
-use Rattle.words.specs.Answer.{Res, ok, refuse, ◌>>=◌, ◌>>◌, need, if◌then◌else◌}
+use Rattle.words.specs.Answer.{Res, ok, refuse, ◌>>=◌, ◌>>◌, need}
 use Rattle.unwinding.specs.CodeList.{Codes, total}
 use Rattle.unwinding.specs.Taking.{Taken, one, last, bad, Scan, follow, scan_from, scan, codes_at}
 use Rattle.unwinding.specs.Shape.{Shape, start_of}

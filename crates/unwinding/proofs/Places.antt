@@ -1,6 +1,7 @@
 -- Where the pc stands by its offset, and which codes are left to undo there: those of the instructions done in the prologue, all of
 -- them in the body, those of the instructions to come in an epilogue.
 -- Assumes nothing.
+use Rattle.std.specs.Prelude.{if◌then◌else◌}
 use Prim.Native.Nat.{ℕ, ◌+◌, ◌-◌, ◌≤◌, ◌<◌, min, max}
 use mathlib.Core.Path.{◌≡◌, refl, ap, ◌∙◌}
 use mathlib.Core.Bool.{Bool, true, false, ◌&&◌, not}
@@ -11,7 +12,7 @@ use native.Mathlib.Omega.{arith}
 use borrow.Author.Tests.{lt-ltb, le-ltb, le-leb, lt-leb, ltb-true, ltb-false, leb-true}
 use Rattle.words.specs.declared.Place.{Place}
 use Rattle.words.specs.declared.Place.TheVariants.{Prologue, Body, Epilogue}
-use Rattle.words.specs.Answer.{ok, if◌then◌else◌}
+use Rattle.words.specs.Answer.{ok}
 use Rattle.unwinding.specs.CodeList.{total}
 use Rattle.unwinding.specs.View.{EpilogueOf, View, Stretch, stretch, shared, inside, apart, all_apart, ascending, fits}
 use Rattle.unwinding.specs.Todo.{left, in_epilogue, in_epilogues, todo}

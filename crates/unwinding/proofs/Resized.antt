@@ -1,6 +1,7 @@
 -- A code list in which one code has a smaller size, on any machine: which ends of it are found where, what passes 6 and 7 still, and what is
 -- made of what is left to undo, where that does not tell the two codes apart.
 -- Assumes nothing.
+use Rattle.std.specs.Prelude.{if◌then◌else◌}
 use Prim.Native.Nat.{ℕ, ◌+◌, ◌-◌, ◌≤◌, ◌<◌, min, max}
 use mathlib.Core.Path.{◌≡◌, refl, sym, ap, ◌∙◌}
 use mathlib.Core.Logic.{◌⊎◌, inl, inr}
@@ -16,7 +17,7 @@ use Rattle.words.specs.declared.CodeBytes.{CodeBytes}
 use Rattle.words.specs.declared.Place.{Place}
 use Rattle.words.specs.declared.Place.TheVariants.{Prologue, Body}
 use Rattle.words.specs.declared.Refusal.TheVariants.{InsideInstruction}
-use Rattle.words.specs.Answer.{Res, ok, refuse, ◌>>=◌, if◌then◌else◌, maybe}
+use Rattle.words.specs.Answer.{Res, ok, refuse, ◌>>=◌, maybe}
 use Rattle.words.proofs.Answers.{bind-same}
 use Rattle.words.proofs.Tests.{both}
 use Rattle.unwinding.specs.CodeList.{Codes, total, end_of, run}

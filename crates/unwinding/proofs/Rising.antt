@@ -1,6 +1,7 @@
 -- What holds of a walk where no frame lowers SP or runs more than so many codes: SP rises with each frame after the first, so that a walk
 -- below a top is short, and the sum of codes is small.
 -- Assumes nothing.
+use Rattle.std.specs.Prelude.{if◌then◌else◌}
 use Prim.Native.Nat.{ℕ, ◌+◌, ◌*◌, ◌≤◌}
 use mathlib.Core.Path.{◌≡◌, refl}
 use mathlib.Core.Bool.{Bool, true, false}
@@ -8,7 +9,7 @@ use native.Mathlib.Omega.{arith}
 use lib.Dec.{eqb}
 use lib.ListN.{length}
 use borrow.Author.Tests.{eqb-true, eqb-false, not-true}
-use Rattle.words.specs.Answer.{ok, if◌then◌else◌}
+use Rattle.words.specs.Answer.{ok}
 use Rattle.unwinding.specs.Trail.{Walker, FrameOf, Trail, next_frame, walk_from, walk}
 use Rattle.unwinding.specs.AsCoded.Turn.{Standing, Small, gone}
 use Rattle.unwinding.proofs.Thirteen.{next-was}

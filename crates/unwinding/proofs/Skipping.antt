@@ -1,5 +1,6 @@
 -- Skipping codes: one code, and then the rest.
 -- Assumes nothing.
+use Rattle.std.specs.Prelude.{if◌then◌else◌}
 use Prim.Native.Nat.{ℕ, zero, suc, ◌+◌, ◌-◌, ◌≤◌, ◌<◌}
 use mathlib.Core.Path.{◌≡◌, refl, sym, ap, ap₂, ◌∙◌}
 use mathlib.Core.List.{List, [], ◌∷◌}
@@ -10,7 +11,6 @@ use native.Mathlib.Omega.{arith}
 use borrow.Author.Tests.{ne_eqb, le-leb, lt-leb}
 use Rattle.words.specs.Units.{code_bytes}
 use Rattle.words.specs.declared.CodeBytes.{CodeBytes}
-use Rattle.words.specs.Answer.{if◌then◌else◌}
 use Rattle.unwinding.specs.Taking.{Taken, one, last, bad}
 use Rattle.unwinding.specs.Skip.{over, skip_from, skip_at}
 use Rattle.unwinding.proofs.Scanning.{Takes, drop-behind}

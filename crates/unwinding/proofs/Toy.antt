@@ -1,6 +1,7 @@
 -- A machine of the simplest kind, to see the rules of place by computation: a code is a byte and is the size of its instruction, the list
 -- from an index is all that follows, and its end code stands for an instruction of 2 bytes. Epilogues of condition 1 execute.
 -- Assumes nothing.
+use Rattle.std.specs.Prelude.{if◌then◌else◌}
 use Prim.Native.Nat.{ℕ}
 use mathlib.Core.Path.{◌≡◌, refl}
 use mathlib.Core.List.{List, ◌∷◌, []}
@@ -12,7 +13,7 @@ use Rattle.words.specs.declared.CodeBytes.{CodeBytes}
 use Rattle.words.specs.declared.Place.{Place}
 use Rattle.words.specs.declared.Place.TheVariants.{Prologue, Body, Epilogue}
 use Rattle.words.specs.declared.Refusal.TheVariants.{BadCodes, BadLayout, InsideInstruction, Conditional}
-use Rattle.words.specs.Answer.{Res, ok, refuse, ◌>>=◌, if◌then◌else◌}
+use Rattle.words.specs.Answer.{Res, ok, refuse, ◌>>=◌}
 use Rattle.unwinding.specs.CodeList.{Codes}
 use Rattle.unwinding.specs.Shape.{Shape}
 use Rattle.unwinding.specs.View.{view}

@@ -1,5 +1,6 @@
 -- What a record that passes 6 and 7 has: its code lists are read from its code bytes, and its prologue and epilogues are apart.
 -- Assumes nothing.
+use Rattle.std.specs.Prelude.{if◌then◌else◌}
 use Prim.Native.Nat.{ℕ, ◌+◌}
 use mathlib.Core.Path.{◌≡◌, sym, ap, ◌∙◌}
 use mathlib.Core.Bool.{true}
@@ -7,7 +8,7 @@ use mathlib.Core.List.{List, ◌∷◌}
 use Rattle.words.specs.Units.{code_bytes}
 use Rattle.words.specs.declared.CodeBytes.{CodeBytes}
 use Rattle.words.specs.declared.Refusal.TheVariants.{BadLayout}
-use Rattle.words.specs.Answer.{Res, ok, if◌then◌else◌}
+use Rattle.words.specs.Answer.{Res, ok}
 use Rattle.unwinding.specs.CodeList.{Codes, total}
 use Rattle.unwinding.specs.Shape.{Shape, start_of}
 use Rattle.unwinding.specs.View.{EpilogueOf, View, fits, epilogues, view}

@@ -1,7 +1,7 @@
 -- Code lists of any machine: their instructions' sizes (RULES 3.7), the end of a list that is still to be undone, and running a list.
-use Rattle.std.specs.Prelude.{ℕ, ◌+◌, List, [], ◌∷◌, eqb}
+use Rattle.std.specs.Prelude.{ℕ, ◌+◌, List, [], ◌∷◌, eqb, if◌then◌else◌}
 use Rattle.std.proofs.Math.Option.{Option, none, some}
-use Rattle.words.specs.Answer.{Res, ok, ◌>>=◌, if◌then◌else◌}
+use Rattle.words.specs.Answer.{Res, ok, ◌>>=◌}
 
 -- the codes before an end code, and the size of the end code's instruction
 pub record Codes (C : Type 0) : Type 0 where

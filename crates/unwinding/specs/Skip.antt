@@ -1,9 +1,8 @@
 -- Skipping codes of instructions not yet done, or done, on any machine (RULES 5.8, 5.9).
-use Rattle.std.specs.Prelude.{ℕ, zero, suc, ◌+◌, ◌-◌, List, [], ◌∷◌, leb, eqb}
+use Rattle.std.specs.Prelude.{ℕ, zero, suc, ◌+◌, ◌-◌, List, [], ◌∷◌, leb, eqb, if◌then◌else◌}
 use Rattle.std.proofs.Math.Option.{Option, none, some}
 use Rattle.words.specs.declared.CodeBytes.{CodeBytes}
 use Rattle.words.specs.Units.{code_bytes}
-use Rattle.words.specs.Answer.{if◌then◌else◌}
 use Rattle.unwinding.specs.Taking.{Taken, one, last, bad}
 
 module _ {C : Type 0} (size : C → ℕ) where

@@ -1,9 +1,9 @@
 -- Where an offset stands in a record (RULES 5.6), and which codes are left to undo there (RULES 5.7 to 5.9).
-use Rattle.std.specs.Prelude.{ℕ, ◌+◌, ◌-◌, List, [], ◌∷◌, Bool, ◌&&◌, leb, ltb}
+use Rattle.std.specs.Prelude.{ℕ, ◌+◌, ◌-◌, List, [], ◌∷◌, Bool, ◌&&◌, leb, ltb, if◌then◌else◌}
 use Rattle.words.specs.declared.Place.{Place}
 use Rattle.words.specs.declared.Place.TheVariants.{Prologue, Body, Epilogue}
 use Rattle.words.specs.declared.Refusal.TheVariants.{InsideInstruction, Conditional}
-use Rattle.words.specs.Answer.{Res, ok, refuse, ◌>>=◌, ◌>>◌, need, if◌then◌else◌, maybe}
+use Rattle.words.specs.Answer.{Res, ok, refuse, ◌>>=◌, ◌>>◌, need, maybe}
 use Rattle.unwinding.specs.CodeList.{end_of}
 use Rattle.unwinding.specs.View.{EpilogueOf, View}
 

@@ -1,10 +1,10 @@
 -- The walk, over any machine's frame: frame after frame, each listed when it is unwound, up to an end, a full list or a refusal (RULES 7.1
 -- to 7.7).
-use Rattle.std.specs.Prelude.{ℕ, zero, suc, ◌+◌, List, [], ◌∷◌, ◌++◌, Bool, true, false, ◌||◌, not, length, drop, eqb}
+use Rattle.std.specs.Prelude.{ℕ, zero, suc, ◌+◌, List, [], ◌∷◌, ◌++◌, Bool, true, false, ◌||◌, not, length, drop, eqb, if◌then◌else◌}
 use Rattle.words.specs.declared.Place.{Place}
 use Rattle.words.specs.declared.Refusal.{Refusal}
 use Rattle.words.specs.declared.Refusal.TheVariants.{SpSame}
-use Rattle.words.specs.Answer.{Res, ok, ◌>>=◌, ◌>>◌, need, if◌then◌else◌, either}
+use Rattle.words.specs.Answer.{Res, ok, ◌>>=◌, ◌>>◌, need, either}
 
 pub record Walker : Type 1 where
   -- a machine's state, with a pc and an SP

@@ -7,7 +7,7 @@ use mathlib.Core.List.{List}
 use native.Mathlib.Omega.{arith}
 use lib.Dec.{eqb}
 use Rattle.words.specs.declared.Verdict.TheVariants.{Given}
-use Rattle.unwinding.specs.AsCoded.Turn as Any
+use Rattle.unwinding.specs.AsCoded.Turn as General
 use Rattle.unwinding.proofs.Rising.{Bounded, next-few}
 use Rattle.unwinding.proofs.Turns.{Turns, turns, turn_is, at-end, at-full, at-refusal, goes}
 use Rattle.frame.specs.declared.Came.{Came}
@@ -30,25 +30,25 @@ bounded t = record { up = λ first g c e. frame-sp first t g c e; few = λ first
 
 module _ (t : Inputs) (room : ℕ) (s : Standing) (r d : List ℕ) (x : Going) where
   -- it halts as the walk does, whatever is left in the lists
-  pub halts : (stop : Stop) (a b : List ℕ) → x ≡ halted_in s stop → Turns arm (frames t) room (stands s r d) (Any.halted arm (stands s r d) stop) → Goes t room (stands s r d) x a b
+  pub halts : (stop : Stop) (a b : List ℕ) → x ≡ halted_in s stop → Turns arm (frames t) room (stands s r d) (General.halted arm (stands s r d) stop) → Goes t room (stands s r d) x a b
   halts stop a b e h =
       let k = turn_is arm (frames t) room (stands s r d) h in
       record {
-        on = ap (λ (y : Going). y.on) e ∙ ap (λ (y : Any.Turn arm). y.on) k;
-        stop = ap (λ (y : Going). y.stop) e ∙ ap (λ (y : Any.Turn arm). y.stop) k;
-        frame = ap (λ (y : Going). y.frame) e ∙ ap (λ (y : Any.Turn arm). y.frame) k;
+        on = ap (λ (y : Going). y.on) e ∙ ap (λ (y : General.Turn arm). y.on) k;
+        stop = ap (λ (y : Going). y.stop) e ∙ ap (λ (y : General.Turn arm). y.stop) k;
+        frame = ap (λ (y : Going). y.frame) e ∙ ap (λ (y : General.Turn arm). y.frame) k;
         next = λ o. absurd (let z : ◌≡◌ {A = ℕ} 0 1 = cc (o, ap (λ (y : Going). y.on) e) in omega arith);
       }
 
   -- it goes on as the walk does
-  pub goes_in : (u : Came) (a b : List ℕ) → x ≡ gone_in s u → Turns arm (frames t) room (stands s r d) (Any.gone arm (stands s r d) (caller_by u a b)) → Goes t room (stands s r d) x a b
+  pub goes_in : (u : Came) (a b : List ℕ) → x ≡ gone_in s u → Turns arm (frames t) room (stands s r d) (General.gone arm (stands s r d) (caller_by u a b)) → Goes t room (stands s r d) x a b
   goes_in u a b e h =
       let k = turn_is arm (frames t) room (stands s r d) h in
       record {
-        on = ap (λ (y : Going). y.on) e ∙ ap (λ (y : Any.Turn arm). y.on) k;
-        stop = ap (λ (y : Going). y.stop) e ∙ ap (λ (y : Any.Turn arm). y.stop) k;
-        frame = ap (λ (y : Going). y.frame) e ∙ ap (λ (y : Any.Turn arm). y.frame) k;
-        next = λ o. ap (λ (y : Going). stands y.next a b) e ∙ ap (λ (y : Any.Turn arm). y.next) k;
+        on = ap (λ (y : Going). y.on) e ∙ ap (λ (y : General.Turn arm). y.on) k;
+        stop = ap (λ (y : Going). y.stop) e ∙ ap (λ (y : General.Turn arm). y.stop) k;
+        frame = ap (λ (y : Going). y.frame) e ∙ ap (λ (y : General.Turn arm). y.frame) k;
+        next = λ o. ap (λ (y : Going). stands y.next a b) e ∙ ap (λ (y : General.Turn arm). y.next) k;
       }
 
 pub came-codes : (t : Inputs) (s : Standing) (r d : List ℕ) (u : Came) (a b : List ℕ)
@@ -56,7 +56,7 @@ pub came-codes : (t : Inputs) (s : Standing) (r d : List ℕ) (u : Came) (a b : 
 came-codes t s r d u a b is v = next-few arm (frames t) 1020 (bounded t) _ (stands s r d).at (caller_by u a b) (given_is u a b is v)
 
 -- where a turn does not go on, the walk stands where it stood
-rests : (t : Inputs) (room : ℕ) {s : Any.Standing arm} {r : Any.Turn arm} → Turns arm (frames t) room s r → r.on ≡ false → r.next ≡ s
+rests : (t : Inputs) (room : ℕ) {s : General.Standing arm} {r : General.Turn arm} → Turns arm (frames t) room s r → r.on ≡ false → r.next ≡ s
 rests t room (at-end p) o = refl
 rests t room (at-full p f) o = refl
 rests t room (at-refusal r p f w) o = refl
@@ -64,16 +64,16 @@ rests t room (goes c p f w) o = absurd (let z : ◌≡◌ {A = ℕ} 0 1 = cc in 
 
 -- by value: a turn in place, with the registers put together again
 module _ (t : Inputs) (room : ℕ) (s : State) (p : Standing) (q : stands p s.regs.r s.regs.d ≡ standing s) (x : Going) (a b : List ℕ) (g : Goes t room (stands p s.regs.r s.regs.d) x a b) where
-  abbrev T : Any.Turn arm
-  T = Any.turn_of arm (frames t) room (stands p s.regs.r s.regs.d)
+  abbrev T : General.Turn arm
+  T = General.turn_of arm (frames t) room (stands p s.regs.r s.regs.d)
 
   whole : turned s.checked T ≡ turn_of t room s
-  whole = ap (λ (y : Any.Standing arm). turned s.checked (Any.turn_of arm (frames t) room y)) q
+  whole = ap (λ (y : General.Standing arm). turned s.checked (General.turn_of arm (frames t) room y)) q
 
-  abbrev made : Bool → Stop → Frame → Any.Standing arm → Turn
+  abbrev made : Bool → Stop → Frame → General.Standing arm → Turn
   made o z f n = turned s.checked (record { on = o; stop = z; frame = f; next = n })
 
-  told : (o : Bool) (n : Any.Standing arm) → o ≡ T.on → n ≡ T.next → made o x.stop x.frame n ≡ turn_of t room s
+  told : (o : Bool) (n : General.Standing arm) → o ≡ T.on → n ≡ T.next → made o x.stop x.frame n ≡ turn_of t room s
   told o n e m =
       ap (λ y. made y x.stop x.frame n) e
       ∙ ap (λ y. made T.on y x.frame n) g.stop

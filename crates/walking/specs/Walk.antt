@@ -2,7 +2,7 @@
 use Rattle.std.specs.Prelude.{ℕ, ◌≡◌, List, Bool, length}
 use Rattle.words.specs.Bits.{even}
 use Rattle.words.specs.Answer.{Res}
-use Rattle.unwinding.specs.Trail as Any
+use Rattle.unwinding.specs.Trail as General
 use Rattle.unwinding.specs.Trail.{Walker, FrameOf}
 use Rattle.machine.specs.declared.Regs.{Regs}
 use Rattle.frame.specs.Frame.{Inputs, Caller, frame_of}
@@ -34,23 +34,23 @@ abbrev pub frames : Inputs → FrameOf arm
 frames t first g = frame_of first t g
 
 abbrev pub next_frame : (first : Bool) → Inputs → Regs → Res Caller
-next_frame first t g = Any.next_frame arm (frames t) first g
+next_frame first t g = General.next_frame arm (frames t) first g
 
 abbrev pub Trail : Type 0
-Trail = Any.Trail arm
+Trail = General.Trail arm
 
 abbrev pub walk_from : Inputs → (room : ℕ) → (first : Bool) → Regs → Trail
-walk_from t room first g = Any.walk_from arm (frames t) room first g
+walk_from t room first g = General.walk_from arm (frames t) room first g
 
 abbrev pub walk : Inputs → (room : ℕ) → Regs → Trail
-walk t room g = Any.walk arm (frames t) room g
+walk t room g = General.walk arm (frames t) room g
 
 -- the answer (RULES 7.7), and the lent list as the walk leaves it (RULES 7.2)
 abbrev pub walked : Trail → Walked
 walked w = record { stop = w.stop; frames = length w.frames; codes = w.codes }
 
 abbrev pub filled : List Frame → Trail → List Frame
-filled lent w = Any.filled arm lent w
+filled lent w = General.filled arm lent w
 
 -- what a walk into a lent list comes to: the answer, and the list
 abbrev pub Walks : Inputs → Regs → (lent left : List Frame) → Walked → Type 0

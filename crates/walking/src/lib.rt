@@ -16,7 +16,7 @@ use pdata::Checked;
 use words::{Place, Refusal, Verdict};
 
 // What is listed of a frame (RULES 7.2); bit 0 of its pc is 0.
-#[derive(Drop)]
+#[derive(Clone, Copy)]
 pub struct Frame {
     pub pc: u32,
     pub sp: u32,
@@ -24,7 +24,7 @@ pub struct Frame {
 }
 
 // Why a walk stopped: a caller's pc was 0, the list was full, or the frame at this pc was refused (RULES 7.3 to 7.5).
-#[derive(Drop)]
+#[derive(Clone, Copy)]
 pub enum Stop {
     End,
     Full,
@@ -32,7 +32,7 @@ pub enum Stop {
 }
 
 // A walk's answer: the stop, how many frames are listed, and how many codes they ran (RULES 7.7).
-#[derive(Drop)]
+#[derive(Clone, Copy)]
 pub struct Walked {
     pub stop: Stop,
     pub frames: usize,
@@ -40,7 +40,7 @@ pub struct Walked {
 }
 
 // The answer with the list, for a list that goes in and comes back by value.
-#[derive(Drop)]
+#[derive(Clone, Copy)]
 pub struct WalkedAll {
     pub walked: Walked,
     pub list: [Frame; 256],
@@ -48,7 +48,7 @@ pub struct WalkedAll {
 
 // Where a walk stands beside r0-r12 and d0-d31, which are lent: SP, LR and the pc, whether the pc 0 ends it, the frames listed and the sum
 // of their codes.
-#[derive(Drop)]
+#[derive(Clone, Copy)]
 pub struct Standing {
     pub sp: u32,
     pub lr: u32,
@@ -60,7 +60,7 @@ pub struct Standing {
 
 // What a turn in place does: if it goes on, the frame to list and where the walk stands then; if not, why it stops, and the lent registers
 // do not count.
-#[derive(Drop)]
+#[derive(Clone, Copy)]
 pub struct Going {
     pub on: bool,
     pub stop: Stop,
@@ -69,7 +69,7 @@ pub struct Going {
 }
 
 // The same with the registers, for a list of frames that is lent, and with what the tables showed.
-#[derive(Drop)]
+#[derive(Clone, Copy)]
 struct State {
     checked: Checked,
     regs: Regs,
@@ -78,7 +78,7 @@ struct State {
     codes: usize,
 }
 
-#[derive(Drop)]
+#[derive(Clone, Copy)]
 struct Turn {
     on: bool,
     stop: Stop,

@@ -1,5 +1,6 @@
 -- Tests joined by `&&`, `||` and `if`, by what their parts say.
 -- Assumes nothing.
+use Rattle.std.specs.Prelude.{if◌then◌else◌}
 use Prim.Native.Nat.{ℕ, ◌≤◌, ◌<◌}
 use mathlib.Core.Path.{◌≡◌, refl, sym, ◌∙◌}
 use mathlib.Core.Bool.{Bool, true, false, ◌&&◌, ◌||◌}
@@ -7,7 +8,6 @@ use mathlib.Core.Logic.{◌⊎◌, ⊎_elim}
 use lib.Dec.{T, leb}
 use borrow.Author.Tests.{le-leb, lt-leb, leb-true, leb-false}
 use native.Mathlib.Omega.{arith}
-use Rattle.words.specs.Answer.{if◌then◌else◌}
 
 pub and-true : {a : Bool} (b : Bool) → a ≡ true → b ≡ (a && b)
 and-true b h = rw h refl

@@ -25,12 +25,7 @@ abbrev pub need : Bool → Refusal → Res (Unit {0})
 need true r = ok tt
 need false r = refuse r
 
--- by cases on a test, on an answer, and on what may be missing
-infix 5 if◌then◌else◌
-abbrev pub if◌then◌else◌ : {A : Type 0} → Bool → A → A → A
-if◌then◌else◌ true a b = a
-if◌then◌else◌ false a b = b
-
+-- by cases on an answer, and on what may be missing
 abbrev pub either : {A B : Type 0} → Res A → (Refusal → B) → (A → B) → B
 either (ok a) bad good = good a
 either (refuse r) bad good = bad r

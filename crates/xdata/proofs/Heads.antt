@@ -1,5 +1,6 @@
 -- The head and the size of an .xdata record, by what its tests say; a head that is given is small.
 -- Assumes nothing.
+use Rattle.std.specs.Prelude.{if◌then◌else◌}
 use Prim.Native.Nat.{ℕ, ◌+◌, ◌-◌, ◌*◌, ◌%◌, ◌^◌, ◌<◌, ◌≤◌}
 use mathlib.Core.Path.{◌≡◌, refl, sym, ap, ◌∙◌}
 use mathlib.Core.Bool.{Bool, true, false}
@@ -11,7 +12,7 @@ use Rattle.lent.specs.Lent.{Lent, holds, word_at}
 use Rattle.words.specs.declared.Refusal.{Refusal}
 use Rattle.words.specs.declared.Refusal.TheVariants.{UnfitInput, Reserved, OutsideXdata}
 use Rattle.words.specs.declared.Verdict.TheVariants.{Given, Refused}
-use Rattle.words.specs.Answer.{Res, ok, refuse, need, ◌>>◌, ◌>>=◌, if◌then◌else◌}
+use Rattle.words.specs.Answer.{Res, ok, refuse, need, ◌>>◌, ◌>>=◌}
 use Rattle.xdata.specs.Xdata.{fit_xdata, X, E, record_bytes, long_head, short_head, head_at, xdata_size}
 use Rattle.xdata.specs.AsCoded.Heads.{head_read, whole_record, long_record}
 use Rattle.xdata.specs.declared.Head.{Head}

@@ -5,12 +5,12 @@
 --  |  reserved  | Code words |        Count              |   word 1, if bits 23-31 of word 0 are all 0: 24-31, 16-23, 0-15
 --
 -- After it come the scope words, none with E=1, the code bytes and, with X=1, the handler (RULES 2.9 to 2.12).
-use Rattle.std.specs.Prelude.{ℕ, ◌+◌, ◌-◌, ◌*◌, ◌%◌, ◌^◌, Bool, ◌&&◌, leb, eqb}
+use Rattle.std.specs.Prelude.{ℕ, ◌+◌, ◌-◌, ◌*◌, ◌%◌, ◌^◌, Bool, ◌&&◌, leb, eqb, if◌then◌else◌}
 use Rattle.words.specs.Bits.{bits, bit}
 use Rattle.lent.specs.Lent.{Lent, end, holds, word_at}
 use Rattle.words.specs.Units.{halfwords, halfword_bytes, code_word_bytes}
 use Rattle.words.specs.declared.Refusal.TheVariants.{UnfitInput, Reserved, OutsideXdata}
-use Rattle.words.specs.Answer.{Res, ok, need, if◌then◌else◌, verdict, or_else, ◌>>=◌, ◌>>◌}
+use Rattle.words.specs.Answer.{Res, ok, need, verdict, or_else, ◌>>=◌, ◌>>◌}
 use Rattle.xdata.specs.declared.Head.{Head}
 use Rattle.xdata.specs.declared.SizeOf.{SizeOf}
 

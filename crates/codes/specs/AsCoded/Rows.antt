@@ -1,8 +1,7 @@
 -- The rows of RULES 3.2 as the one constant table has them (RULES 3.3): by first byte a number with the code's bytes, its instruction's
 -- size and its sort. That an entry says what its row does are laws (`entry-bytes`, `entry-size` and `by_kind`, `by-second` of
 -- proofs/Sorts.antt).
-use Rattle.std.specs.Prelude.{ℕ, zero, suc, ◌+◌, ◌*◌, List, [], ◌∷◌, ◌||◌, eqb}
-use Rattle.words.specs.Answer.{if◌then◌else◌}
+use Rattle.std.specs.Prelude.{ℕ, zero, suc, ◌+◌, ◌*◌, List, [], ◌∷◌, ◌||◌, eqb, if◌then◌else◌}
 use Rattle.codes.specs.Table.{row_of}
 use Rattle.codes.specs.declared.Meaning.{Meaning}
 use Rattle.codes.specs.declared.Meaning.TheVariants.{Does, End, Undefined}

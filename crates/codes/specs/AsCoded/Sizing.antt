@@ -1,6 +1,5 @@
 -- One code without what it undoes. That an entry's sort and a second byte say it are laws (`by_kind`, `by-second` of proofs/Sorts.antt).
-use Rattle.std.specs.Prelude.{ℕ, ◌/◌, ◌%◌, Bool, leb, eqb}
-use Rattle.words.specs.Answer.{if◌then◌else◌}
+use Rattle.std.specs.Prelude.{ℕ, ◌/◌, ◌%◌, Bool, leb, eqb, if◌then◌else◌}
 use Rattle.codes.specs.declared.Taken.{Taken}
 use Rattle.codes.specs.declared.Taken.TheVariants as T
 use Rattle.codes.specs.declared.Sized.{Sized}

@@ -1,11 +1,11 @@
 -- The invariant: what the codes that are left and what was found so far come to is what all come to; `left` is the offset of the instruction
 -- of the code before, where the instructions of those codes end.
 -- Assumes nothing.
+use Rattle.std.specs.Prelude.{if◌then◌else◌}
 use Prim.Native.Nat.{◌-◌}
 use mathlib.Core.Path.{◌≡◌, refl, sym, ap, ap₂, ◌∙◌}
 use lib.ListN.{get_or}
 use native.Mathlib.Omega.{arith}
-use Rattle.words.specs.Answer.{if◌then◌else◌}
 use Rattle.unwinding.specs.CodeList.{total}
 use Rattle.unwinding.proofs.Scanning.{take_next}
 use Rattle.codes.specs.Code.{seen}

@@ -1,7 +1,7 @@
 -- Prologues and epilogues compared in one pass over their codes, as the code does it. That this is comparing the items in turn are laws
 -- (`prologue-compared`, `epilogue-compared` of proofs/Comparing.antt).
-use Rattle.std.specs.Prelude.{ℕ, ◌+◌, List, [], ◌∷◌, Bool, false, ◌||◌, eqb}
-use Rattle.words.specs.Answer.{Res, ok, refuse, if◌then◌else◌}
+use Rattle.std.specs.Prelude.{ℕ, ◌+◌, List, [], ◌∷◌, Bool, false, ◌||◌, eqb, if◌then◌else◌}
+use Rattle.words.specs.Answer.{Res, ok, refuse}
 use Rattle.unwinding.specs.CodeList.{total}
 use Rattle.thumb.specs.Instruction.{instruction_at}
 use Rattle.expected.specs.Expected.{before, after, ending, meets}

@@ -1,8 +1,8 @@
 -- A record's instructions compared by its plan, in one pass over its code lists. That this is comparing the items of its view is a law
 -- (`plan-compared` of proofs/Planned.antt).
-use Rattle.std.specs.Prelude.{ℕ, List, [], ◌∷◌, Bool, length, ltb}
+use Rattle.std.specs.Prelude.{ℕ, List, [], ◌∷◌, Bool, length, ltb, if◌then◌else◌}
 use Rattle.words.specs.Units.{code_bytes}
-use Rattle.words.specs.Answer.{if◌then◌else◌, either}
+use Rattle.words.specs.Answer.{either}
 use Rattle.unwinding.specs.Shape.{start_of}
 use Rattle.unwinding.specs.declared.Scope.{Scope}
 use Rattle.codes.specs.Code.{codes_at}

@@ -1,13 +1,13 @@
 -- The caller from where the pc stands: the codes from an index run, 11, and the answer. That this is `within` is a law (`within-placed` of
 -- proofs/Within.antt), and that by the record found it is `by_word` (`word-placed` of proofs/Records.antt).
-use Rattle.std.specs.Prelude.{ℕ, ◌≡◌, List, Bool, true, false, length, leb, ltb}
+use Rattle.std.specs.Prelude.{ℕ, ◌≡◌, List, Bool, true, false, length, leb, ltb, if◌then◌else◌}
 use Rattle.lent.specs.Lent.{Lent}
 use Rattle.words.specs.declared.CodeBytes.{CodeBytes}
 use Rattle.words.specs.declared.Place.{Place}
 use Rattle.words.specs.declared.Refusal.TheVariants.{SpFell}
 use Rattle.words.specs.declared.Verdict.{Verdict}
 use Rattle.words.specs.declared.Verdict.TheVariants.{Given, Refused}
-use Rattle.words.specs.Answer.{Res, ok, refuse, ◌>>=◌, ◌>>◌, need, if◌then◌else◌}
+use Rattle.words.specs.Answer.{Res, ok, refuse, ◌>>=◌, ◌>>◌, need}
 use Rattle.codes.specs.Code.{scan}
 use Rattle.machine.specs.declared.Regs.{Regs}
 use Rattle.machine.specs.AsCoded.Run.{run_at}

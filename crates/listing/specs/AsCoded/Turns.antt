@@ -1,6 +1,5 @@
 -- What a turn of the walk prints. That the turns print the listing is a law (`printing-turn`, `printing-headed` of proofs/Printing.antt).
-use Rattle.std.specs.Prelude.{ℕ, List}
-use Rattle.words.specs.Answer.{if◌then◌else◌}
+use Rattle.std.specs.Prelude.{ℕ, List, if◌then◌else◌}
 use Rattle.walking.specs.declared.Standing.{Standing}
 use Rattle.walking.specs.declared.Going.{Going}
 use Rattle.listing.specs.Listing.{frame_line, last_of}

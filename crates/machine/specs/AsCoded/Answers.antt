@@ -1,10 +1,10 @@
 -- What the machine's functions give for an answer or a refusal of `load`, `pop`, `vpop`, `effect` and `step`: each contract ties one.
-use Rattle.std.specs.Prelude.{ℕ, ◌≤◌, ◌≡◌, List, eqb}
+use Rattle.std.specs.Prelude.{ℕ, ◌≤◌, ◌≡◌, List, eqb, if◌then◌else◌}
 use Rattle.words.specs.declared.Verdict.{Verdict}
 use Rattle.words.specs.declared.Verdict.TheVariants.{Given, Refused}
 use Rattle.words.specs.declared.Refusal.TheVariants.{BadCodes, BadStack}
 use Rattle.words.specs.Units.{code_bytes}
-use Rattle.words.specs.Answer.{Res, ok, refuse, if◌then◌else◌}
+use Rattle.words.specs.Answer.{Res, ok, refuse}
 use Rattle.machine.specs.declared.Regs.{Regs}
 use Rattle.machine.specs.declared.Loaded.{Loaded}
 use Rattle.machine.specs.declared.Loaded.TheVariants as Loads

@@ -1,9 +1,9 @@
 -- The loop's invariant: the parts so far are laid, and the others are left (proofs/Laying.antt). A part more is of one frame more, or is the last.
 -- Assumes nothing.
+use Rattle.std.specs.Prelude.{if◌then◌else◌}
 use Prim.Native.Nat.{◌-◌}
 use mathlib.Core.Path.{refl}
 use native.Mathlib.Omega.{arith}
-use Rattle.words.specs.Answer.{if◌then◌else◌}
 use Rattle.text.proofs.Overlaid.{laid-length}
 use borrow.Author.Rules.{rules}
 use Rattle.outlining.proofs.Laying.{Laying, laying-begins, laying-turn, part-less, laying-done}

@@ -1,8 +1,8 @@
 -- The outline in parts, as a program writes it: one for each turn of the walk, so that no part is long. Put end to end they are the outline
 -- (`parts-outlined` of proofs/Parting.antt).
-use Rattle.std.specs.Prelude.{ℕ, ◌+◌, ◌-◌, ◌≤◌, ◌≡◌, true, false, List, [], ◌∷◌, ◌++◌, eqb, length}
-use Rattle.words.specs.Answer.{if◌then◌else◌, either}
-use Rattle.unwinding.specs.AsCoded.Turn as Any
+use Rattle.std.specs.Prelude.{ℕ, ◌+◌, ◌-◌, ◌≤◌, ◌≡◌, true, false, List, [], ◌∷◌, ◌++◌, eqb, length, if◌then◌else◌}
+use Rattle.words.specs.Answer.{either}
+use Rattle.unwinding.specs.AsCoded.Turn as General
 use Rattle.unwinding.specs.Trail as AnyTrail
 use Rattle.pdata.specs.Pdata as Pdata
 use Rattle.frame.specs.Frame.{Inputs, checked}
@@ -33,19 +33,19 @@ parts_from t n k [] w = (opening n ++ last_of w.stop n (k + w.codes)) ∷ []
 parts_from t n k (f ∷ fs) w = (opening n ++ outlined_frame t n f) ∷ parts_from t (n + 1) k fs w
 
 -- what is left to walk from where it stands
-abbrev pub rest_of : Inputs → (s : Any.Standing arm) → Trail
+abbrev pub rest_of : Inputs → (s : General.Standing arm) → Trail
 rest_of t s =
     if s.end then AnyTrail.stopped arm arm.ended else AnyTrail.walk_from arm (frames t) (256 - s.frames) (eqb s.frames 0) s.at
 
-abbrev pub parts_at : Inputs → Any.Standing arm → List (List ℕ)
+abbrev pub parts_at : Inputs → General.Standing arm → List (List ℕ)
 parts_at t s = parts_from t s.frames s.codes (rest_of t s).frames (rest_of t s)
 
 -- the parts of a report's outline
 unfoldable pub parts : List ℕ → List (List ℕ)
-parts s = either (report s) (λ r. (refused_text r ++ text "\n") ∷ []) (λ p. parts_at p.inputs (Any.begun arm p.regs))
+parts s = either (report s) (λ r. (refused_text r ++ text "\n") ∷ []) (λ p. parts_at p.inputs (General.begun arm p.regs))
 
 -- where an outline stands, as the code has it
-abbrev pub standing_at : At → Any.Standing arm
+abbrev pub standing_at : At → General.Standing arm
 standing_at a = record { at = a.regs; end = a.end; frames = a.frames; codes = a.codes }
 
 abbrev pub inputs_at : List ℕ → At → Inputs

@@ -1,7 +1,6 @@
 -- Sixteen code bytes, written from the first on. That they come to `written` is a law (`codes-written` of proofs/Written.antt).
-use Rattle.std.specs.Prelude.{ℕ, ◌+◌, List, ◌∷◌, [], set, replicate, ltb}
+use Rattle.std.specs.Prelude.{ℕ, ◌+◌, List, ◌∷◌, [], set, replicate, ltb, if◌then◌else◌}
 use Rattle.std.proofs.Math.Option.{Option, none, some}
-use Rattle.words.specs.Answer.{if◌then◌else◌}
 use Rattle.packed_codes.specs.declared.Top.{Top}
 use Rattle.packed_codes.specs.declared.Top.TheVariants.{Register, Other}
 

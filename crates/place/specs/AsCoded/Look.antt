@@ -1,7 +1,7 @@
 -- Where an offset stands in a record, as one pass over the record finds it: the epilogues in turn, with what refusal 7 asks of them and
 -- the number of the one that the offset falls into; then the place and the index at which the codes that run there begin. That this is
 -- what `view` and `todo` say is a law (proofs/Placing.antt).
-use Rattle.std.specs.Prelude.{ℕ, ◌+◌, ◌-◌, ◌≤◌, ◌≡◌, List, [], ◌∷◌, Bool, true, false, ◌&&◌, leb, ltb, length}
+use Rattle.std.specs.Prelude.{ℕ, ◌+◌, ◌-◌, ◌≤◌, ◌≡◌, List, [], ◌∷◌, Bool, true, false, ◌&&◌, leb, ltb, length, if◌then◌else◌}
 use Rattle.std.proofs.Math.ListN.{get_elem?}
 use Rattle.words.specs.declared.CodeBytes.{CodeBytes}
 use Rattle.words.specs.declared.Place.{Place}
@@ -11,7 +11,7 @@ use Rattle.words.specs.declared.Refusal.TheVariants.{BadLayout, InsideInstructio
 use Rattle.words.specs.declared.Verdict.{Verdict}
 use Rattle.words.specs.declared.Verdict.TheVariants.{Given, Refused}
 use Rattle.words.specs.Units.{code_bytes}
-use Rattle.words.specs.Answer.{Res, either, maybe, if◌then◌else◌}
+use Rattle.words.specs.Answer.{Res, either, maybe}
 use Rattle.unwinding.specs.CodeList.{Codes, total}
 use Rattle.unwinding.specs.Shape.{start_of}
 use Rattle.unwinding.specs.View.{Stretch}

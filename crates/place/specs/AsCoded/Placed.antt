@@ -1,7 +1,6 @@
 -- Where an offset stands in a record, as the code answers it. That a frame by it is a frame by the record's shape is a law
 -- (frame/proofs/Records.antt).
-use Rattle.std.specs.Prelude.{ℕ, List, true, false, ltb}
-use Rattle.words.specs.Answer.{if◌then◌else◌}
+use Rattle.std.specs.Prelude.{ℕ, List, true, false, ltb, if◌then◌else◌}
 use Rattle.lent.specs.Lent.{Lent}
 use Rattle.words.specs.Units.{code_bytes}
 use Rattle.words.specs.declared.Place.TheVariants.{Leaf}

@@ -1,6 +1,6 @@
 -- A record's shape as plain values and parts of slices: the plan of a full record and of a packed one, and the shape that a plan stands
 -- for, beside the code bytes and the .xdata. That it is the record's shape is a law (`full-shape`, `packed-shape` of proofs/Shapes.antt).
-use Rattle.std.specs.Prelude.{ℕ, zero, suc, ◌+◌, ◌-◌, ◌*◌, List, ◌∷◌, [], Bool, true, false, take, drop, replicate, eqb}
+use Rattle.std.specs.Prelude.{ℕ, zero, suc, ◌+◌, ◌-◌, ◌*◌, List, ◌∷◌, [], Bool, true, false, take, drop, replicate, eqb, if◌then◌else◌}
 use Rattle.lent.specs.Lent.{Lent}
 use Rattle.lent.specs.Little.{word32}
 use Rattle.words.specs.Bits.{bits}
@@ -8,7 +8,7 @@ use Rattle.words.specs.Units.{code_bytes, code_word_bytes}
 use Rattle.words.specs.declared.CodeBytes.{CodeBytes}
 use Rattle.words.specs.declared.Verdict.{Verdict}
 use Rattle.words.specs.declared.Verdict.TheVariants.{Given, Refused}
-use Rattle.words.specs.Answer.{Res, ok, refuse, if◌then◌else◌, ◌>>=◌}
+use Rattle.words.specs.Answer.{Res, ok, refuse, ◌>>=◌}
 use Rattle.unwinding.specs.Shape.{Shape}
 use Rattle.unwinding.specs.declared.Scope.{Scope}
 use Rattle.xdata.specs.Xdata.{E, F, scope_count, codes_offset, span_of, handler_at, head_at}

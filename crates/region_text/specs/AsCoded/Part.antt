@@ -1,7 +1,6 @@
 -- The part of an outline that one list prints: the regions in front that pass a test. Without a test it is all; with that of `covers` it is
 -- the inner regions of one (`front-all`, `front-covers` of proofs/Parts.antt).
-use Rattle.std.specs.Prelude.{ℕ, ◌+◌, ◌≤◌, ◌<◌, Bool, ◌&&◌, ◌||◌, ◌≡◌, List, ◌++◌, length, drop, get_or, leb}
-use Rattle.words.specs.Answer.{if◌then◌else◌}
+use Rattle.std.specs.Prelude.{ℕ, ◌+◌, ◌≤◌, ◌<◌, Bool, ◌&&◌, ◌||◌, ◌≡◌, List, ◌++◌, length, drop, get_or, leb, if◌then◌else◌}
 use Rattle.text.specs.Text.{text, hex8}
 use Rattle.text.specs.Overlay.{Laid}
 use Rattle.regions.specs.declared.Region.{Region}

@@ -1,7 +1,7 @@
 -- A region table as the code finds it: where its first region begins, and how many there are. That this lists the regions of RULES 2.14 is
 -- a law (`table-listed` of proofs/Tables.antt).
-use Rattle.std.specs.Prelude.{ℕ, ◌+◌, ◌-◌, ◌%◌, List}
-use Rattle.words.specs.Answer.{if◌then◌else◌, either}
+use Rattle.std.specs.Prelude.{ℕ, ◌+◌, ◌-◌, ◌%◌, List, if◌then◌else◌}
+use Rattle.words.specs.Answer.{either}
 use Rattle.lent.specs.Lent.{Lent, word_at}
 use Rattle.xdata.specs.Xdata.{handled, xdata_size}
 use Rattle.regions.specs.declared.TableOf.{TableOf}

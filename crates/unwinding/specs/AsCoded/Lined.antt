@@ -1,7 +1,6 @@
 -- Refusal 7 in one pass over stretches, from the lowest start up: each begins above the start before it (`floor`) and not before the end
 -- of the last that is not empty (`reach`). That this is what `fits` asks, pair by pair, is a law (`fits-lined` of proofs/Lined.antt).
-use Rattle.std.specs.Prelude.{ℕ, ◌+◌, List, [], ◌∷◌, Bool, true, ◌&&◌, ◌||◌, leb}
-use Rattle.words.specs.Answer.{if◌then◌else◌}
+use Rattle.std.specs.Prelude.{ℕ, ◌+◌, List, [], ◌∷◌, Bool, true, ◌&&◌, ◌||◌, leb, if◌then◌else◌}
 use Rattle.unwinding.specs.View.{Stretch}
 
 abbrev pub empty : Stretch → Bool

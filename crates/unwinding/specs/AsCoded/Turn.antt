@@ -1,8 +1,8 @@
 -- The walk by turns, as a loop takes them: what a turn does from where the walk stands. That the turns come to `walk` is a law
 -- (proofs/Looping.antt).
-use Rattle.std.specs.Prelude.{ℕ, ◌+◌, ◌*◌, ◌≤◌, Bool, true, false, leb, eqb}
+use Rattle.std.specs.Prelude.{ℕ, ◌+◌, ◌*◌, ◌≤◌, Bool, true, false, leb, eqb, if◌then◌else◌}
 use Rattle.words.specs.declared.Place.TheVariants.{Leaf}
-use Rattle.words.specs.Answer.{if◌then◌else◌, either}
+use Rattle.words.specs.Answer.{either}
 use Rattle.unwinding.specs.Trail.{Walker, FrameOf, next_frame}
 
 -- where a walk stands: the state, whether its pc 0 ends the walk, the frames listed and the sum of their codes

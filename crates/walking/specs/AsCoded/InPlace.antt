@@ -3,7 +3,7 @@
 use Rattle.std.specs.Prelude.{ℕ, ◌+◌, ◌≡◌, List, true, false, eqb}
 use Rattle.words.specs.Bits.{even}
 use Rattle.words.specs.declared.Place.TheVariants.{Leaf}
-use Rattle.unwinding.specs.AsCoded.Turn as Any
+use Rattle.unwinding.specs.AsCoded.Turn as General
 use Rattle.machine.specs.AsCoded.Answers.{regs}
 use Rattle.frame.specs.declared.Came.{Came}
 use Rattle.frame.specs.Frame.{Inputs}
@@ -14,7 +14,7 @@ use Rattle.walking.specs.declared.Going.{Going}
 use Rattle.walking.specs.Walk.{arm, frames}
 
 -- where a walk stands, with the lists as they stand
-abbrev pub stands : Standing → (r d : List ℕ) → Any.Standing arm
+abbrev pub stands : Standing → (r d : List ℕ) → General.Standing arm
 stands s r d = record { at = regs r s.sp s.lr s.pc d; end = s.end; frames = s.frames; codes = s.codes }
 
 -- no further; a frame unwound
@@ -30,12 +30,12 @@ gone_in s u = record {
 }
 
 -- at most 1,020 codes run in a frame
-abbrev pub SmallIn : Any.Standing arm → Type 0
-SmallIn s = Any.Small arm 1020 s
+abbrev pub SmallIn : General.Standing arm → Type 0
+SmallIn s = General.Small arm 1020 s
 
 -- a turn in place does what a turn of the walk does; where it does not go on, the lists do not count
-pub record Goes (t : Inputs) (room : ℕ) (s : Any.Standing arm) (x : Going) (r d : List ℕ) : Type 0 where
-  pub on : x.on ≡ (Any.turn_of arm (frames t) room s).on
-  pub stop : x.stop ≡ (Any.turn_of arm (frames t) room s).stop
-  pub frame : x.frame ≡ (Any.turn_of arm (frames t) room s).frame
-  pub next : x.on ≡ true → stands x.next r d ≡ (Any.turn_of arm (frames t) room s).next
+pub record Goes (t : Inputs) (room : ℕ) (s : General.Standing arm) (x : Going) (r d : List ℕ) : Type 0 where
+  pub on : x.on ≡ (General.turn_of arm (frames t) room s).on
+  pub stop : x.stop ≡ (General.turn_of arm (frames t) room s).stop
+  pub frame : x.frame ≡ (General.turn_of arm (frames t) room s).frame
+  pub next : x.on ≡ true → stands x.next r d ≡ (General.turn_of arm (frames t) room s).next

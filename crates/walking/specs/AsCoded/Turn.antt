@@ -1,6 +1,6 @@
 -- The walk by turns (unwinding/specs/AsCoded/Turn.antt), with what the tables showed carried along.
 use Rattle.std.specs.Prelude.{ℕ}
-use Rattle.unwinding.specs.AsCoded.Turn as Any
+use Rattle.unwinding.specs.AsCoded.Turn as General
 use Rattle.machine.specs.declared.Regs.{Regs}
 use Rattle.pdata.specs.declared.Checked.{Checked}
 use Rattle.frame.specs.Frame.{Inputs, checked}
@@ -9,25 +9,25 @@ use Rattle.walking.specs.declared.Turn.{Turn}
 use Rattle.walking.specs.Walk.{arm, frames}
 
 -- the code's state and turn, as the walk's
-abbrev pub standing : State → Any.Standing arm
+abbrev pub standing : State → General.Standing arm
 standing s = record { at = s.regs; end = s.end; frames = s.frames; codes = s.codes }
 
-abbrev pub turning : Turn → Any.Turn arm
+abbrev pub turning : Turn → General.Turn arm
 turning r = record { on = r.on; stop = r.stop; frame = r.frame; next = standing r.next }
 
 -- and back
-abbrev pub state : Checked → Any.Standing arm → State
+abbrev pub state : Checked → General.Standing arm → State
 state k s = record { checked = k; regs = s.at; end = s.end; frames = s.frames; codes = s.codes }
 
-abbrev pub turned : Checked → Any.Turn arm → Turn
+abbrev pub turned : Checked → General.Turn arm → Turn
 turned k r = record { on = r.on; stop = r.stop; frame = r.frame; next = state k r.next }
 
 abbrev pub begun : Inputs → Regs → State
-begun t g = state (checked t) (Any.begun arm g)
+begun t g = state (checked t) (General.begun arm g)
 
 abbrev pub turn_of : Inputs → (room : ℕ) → State → Turn
-turn_of t room s = turned s.checked (Any.turn_of arm (frames t) room (standing s))
+turn_of t room s = turned s.checked (General.turn_of arm (frames t) room (standing s))
 
 -- at most 1,020 codes run in a frame
 abbrev pub Small : State → Type 0
-Small s = Any.Small arm 1020 (standing s)
+Small s = General.Small arm 1020 (standing s)

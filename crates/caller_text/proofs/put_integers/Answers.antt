@@ -1,0 +1,35 @@
+-- The loop's invariant: the lines of the registers below `i` are laid. The measure is what is left of 13.
+-- Assumes nothing.
+use Prim.Native.Nat.{◌+◌, ◌-◌, ◌≤◌}
+use mathlib.Core.Path.{◌≡◌}
+use native.Mathlib.Numerals.{add-one}
+use native.Mathlib.Omega.{arith}
+use borrow.Author.Rules.{rules}
+use Rattle.text.specs.Text.{numbered}
+use Rattle.text.specs.Overlay.{Laid}
+use Rattle.caller_text.specs.CallerText.{r_line}
+use Rattle.text.proofs.Overlaid.{none, joined, laid-length}
+use Rattle.text.proofs.Numbers.{numbered-last}
+use Rattle.caller_text.proofs.put_integers.Goals as goal
+
+pub loop-i-init : goal.loop-i-init
+unfolding numbered
+loop-i-init c = (omega arith, none _ _ (omega arith) (omega arith))
+
+pub offset_bounds-r-i : goal.offset_bounds-r-i
+offset_bounds-r-i c = omega arith
+
+pub bounds-r-i : goal.bounds-r-i
+bounds-r-i c = omega arith
+
+pub overflow_add-i : goal.overflow_add-i
+overflow_add-i c = omega arith
+
+pub loop-i-smaller : goal.loop-i-smaller
+loop-i-smaller c = omega arith
+
+pub shape_of-out : goal.shape_of-out
+shape_of-out c = laid-length c.loop-i.invariant.1
+
+pub returns : goal.returns
+returns c = let e : c.loop-i.i ≡ 13 = omega arith in rw (← e) c.loop-i.invariant.1
