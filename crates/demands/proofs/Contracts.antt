@@ -19,7 +19,6 @@ use Rattle.lent.specs.Lent.{lent}
 use Rattle.words.specs.Refusals.{verdict_number}
 use Rattle.frame.specs.Frame.{Inputs, inputs}
 use Rattle.walking.specs.Walk.{Trail, walk, walked, filled, walked_all}
-use Rattle.walking.specs.declared.WalkedAll.{WalkedAll}
 use Rattle.walking.specs.contracts.walk as Walk
 use Rattle.text.specs.Overlay.{overlay}
 use Rattle.report.specs.AsCoded.Parts.{parts}

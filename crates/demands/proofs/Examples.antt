@@ -11,18 +11,16 @@ use borrow.Author.Tests.{eq-eqb, le-leb, lt-ltb}
 use Rattle.words.specs.Bits.{bit, even}
 use Rattle.lent.specs.Lent.{Lent, end, word_at}
 use Rattle.words.specs.Units.{halfwords, stack_words, code_bytes, stack_bytes}
-use Rattle.words.specs.declared.Place.{Place}
 use Rattle.words.specs.declared.Place.TheVariants.{Leaf, Prologue, Body, Epilogue}
 use Rattle.words.specs.declared.Refusal.TheVariants.{InsideInstruction, BadStack}
 use Rattle.words.specs.declared.Verdict.TheVariants.{Given, Refused}
 use Rattle.words.specs.Answer.{Res, ok, refuse, ◌>>=◌}
 use Rattle.unwinding.specs.CodeList.{run}
 use Rattle.unwinding.specs.Shape.{Shape}
-use Rattle.unwinding.specs.View.{view}
-use Rattle.unwinding.specs.Todo.{Todo, todo}
+use Rattle.unwinding.specs.Todo.{todo}
 use Rattle.codes.specs.declared.Code.{Code}
 use Rattle.codes.specs.declared.Undo.TheVariants.{Up, Pop, SpFrom}
-use Rattle.codes.specs.Code.{size, codes_at}
+use Rattle.codes.specs.Code.{size}
 use Rattle.codes.specs.Condition.{executing}
 use Rattle.machine.specs.declared.Regs.{Regs}
 use Rattle.machine.specs.Registers.{reg, set_reg, set_sp}

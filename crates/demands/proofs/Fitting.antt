@@ -2,8 +2,8 @@
 -- Assumes nothing.
 use Rattle.std.specs.Prelude.{if◌then◌else◌}
 use Prim.Native.Nat.{ℕ, ◌≤◌}
-use mathlib.Core.Path.{◌≡◌, refl, sym, ap, ap₂, ◌∙◌, subst}
-use mathlib.Core.Logic.{◌⊎◌, inl, inr}
+use mathlib.Core.Path.{◌≡◌, refl, sym, ap, ◌∙◌}
+use mathlib.Core.Logic.{inl, inr}
 use mathlib.Core.Bool.{Bool, true, false, not, true≢false}
 use mathlib.Core.List.{List, ◌++◌}
 use native.Mathlib.Omega.{arith}
@@ -24,8 +24,7 @@ use Rattle.fitting.specs.Fitting.{fit_number, shape_fitted, fitted}
 use Rattle.fitting.specs.Exactly.{Unread}
 use Rattle.fitting.specs.declared.FitRefusal.{FitRefusal}
 use Rattle.fitting.specs.declared.FitRefusal.TheVariants.{Record, Short, Differs}
-use Rattle.fitting.specs.declared.Fitted.{Fitted}
-use Rattle.fitting.specs.declared.Fitted.TheVariants.{Fits, Refused}
+use Rattle.fitting.specs.declared.Fitted.TheVariants.{Refused}
 use Rattle.fitting.proofs.Exact.{exactly}
 use Rattle.fitting.proofs.Behind.{fit-behind}
 use Rattle.executing.specs.Claims.{FitDemand3}

@@ -1,6 +1,6 @@
 -- Each sham of RULES 10.23 breaks the demand that is named there for it.
 -- Assumes nothing.
-use Prim.Native.Nat.{ℕ, ◌≤◌, ◌<◌}
+use Prim.Native.Nat.{ℕ, ◌<◌}
 use mathlib.Core.Path.{◌≡◌, refl, sym, ap, ◌∙◌, subst}
 use mathlib.Core.Logic.{◌≢◌}
 use mathlib.Core.List.{List, [], ◌∷◌}
@@ -8,9 +8,8 @@ use lib.ListN.{get_or, replicate}
 use native.Mathlib.Omega.{arith}
 use Rattle.words.specs.declared.Place.TheVariants.{Leaf, Prologue, Body}
 use Rattle.words.specs.declared.Refusal.{Refusal}
-use Rattle.words.specs.declared.Verdict.{Verdict}
 use Rattle.words.specs.declared.Verdict.TheVariants.{Given, Refused}
-use Rattle.words.specs.Answer.{ok, refuse}
+use Rattle.words.specs.Answer.{ok}
 use Rattle.machine.specs.Registers.{reg}
 use Rattle.machine.specs.declared.Regs.{Regs}
 use Rattle.frame.specs.Frame.{Inputs, unwound, frame, leaf_of}
@@ -21,7 +20,7 @@ use Rattle.walking.specs.declared.Stop.TheVariants.{End}
 use Rattle.walking.specs.declared.WalkedAll.{WalkedAll}
 use Rattle.listing.proofs.Opened.{opened}
 use Rattle.forward.specs.State.{Whole}
-use Rattle.forward.specs.Demand.{Demand3, Finds}
+use Rattle.forward.specs.Demand.{Demand3}
 use Rattle.forward.proofs.Memory.{outside-same}
 use Rattle.forward.proofs.Examples as Run
 use Rattle.demands.specs.Reader.{Reader, ours}

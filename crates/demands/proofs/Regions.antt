@@ -2,7 +2,7 @@
 -- Assumes nothing.
 use Rattle.std.specs.Prelude.{if◌then◌else◌}
 use Prim.Native.Nat.{ℕ, ◌+◌, ◌-◌, ◌%◌, ◌≤◌}
-use mathlib.Core.Path.{◌≡◌, refl, sym, ap, ◌∙◌, subst}
+use mathlib.Core.Path.{◌≡◌, refl, ap, subst}
 use mathlib.Core.Logic.{◌⊎◌, inl, inr}
 use mathlib.Core.Bool.{Bool, true, false}
 use mathlib.Core.List.{List, []}
@@ -20,10 +20,10 @@ use Rattle.regions.specs.Region.{regions_from, sound}
 use Rattle.regions.specs.Table.{Listed, listed, denied, region_number, table_lent, first_of, table_at, table_behind, regions_of}
 use Rattle.regions.proofs.Tables.{lent-inside}
 use Rattle.regions.proofs.Rows.{rows-length}
-use Rattle.nesting.specs.Outline.{Outline, outline, depth}
+use Rattle.nesting.specs.Outline.{outline, depth}
 use Rattle.nesting.specs.Nested.{Nested}
 use Rattle.nesting.proofs.Nesting.{nested, depth-64}
-use Rattle.region_text.specs.RegionText.{outline_text, refused_line, regions_text}
+use Rattle.region_text.specs.RegionText.{regions_text}
 use Rattle.outlining.proofs.Stripping.{stripped-listing}
 use Rattle.demands.specs.Regions.{ours_of_regions, Order1}
 use Rattle.demands.proofs.Numbers.{Only, only-size}

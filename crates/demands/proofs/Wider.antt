@@ -38,7 +38,6 @@ use Rattle.record.specs.Record.{full_of, full_shape, packed_shape, shape_at, sha
 use Rattle.xdata.proofs.Heads.{head_small}
 use Rattle.words.proofs.Tests.{both}
 use Rattle.unwinding.specs.declared.Scope.{Scope}
-use Rattle.walking.specs.declared.Stop.TheVariants as Stop
 use Rattle.frame.specs.Frame.{Inputs, fit_stack, uncovered, within, by_record, frame_of}
 use Rattle.demands.specs.Demand1.{More, Wider}
 

@@ -1,5 +1,5 @@
 -- Order 3 of document 02: whether a record fits its code (RULES section 13), asked of any checker.
-use Rattle.std.specs.Prelude.{ℕ, ◌≤◌, ◌<◌, ◌≡◌, ◌⊎◌, Bool, true, false, not, List, ◌++◌}
+use Rattle.std.specs.Prelude.{ℕ, ◌≤◌, ◌≡◌, ◌⊎◌, Bool, true, false, not, List, ◌++◌}
 use Rattle.words.specs.Refusals.{number}
 use Rattle.lent.specs.Lent.{Lent}
 use Rattle.unwinding.specs.Extent.{of_extent}

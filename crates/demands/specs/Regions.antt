@@ -1,5 +1,5 @@
 -- Order 1 of document 02: the guarded regions beside each frame (RULES 2.14 to 2.16, 8.14 to 8.19), asked of any reader of regions.
-use Rattle.std.specs.Prelude.{ℕ, ◌≤◌, ◌≡◌, ◌⊎◌, Bool, true, false, not, List, [], length}
+use Rattle.std.specs.Prelude.{ℕ, ◌≤◌, ◌≡◌, ◌⊎◌, Bool, true, false, not, List, length}
 use Rattle.words.specs.Refusals.{number}
 use Rattle.lent.specs.Lent.{Lent}
 use Rattle.unwinding.specs.Extent.{of_extent}

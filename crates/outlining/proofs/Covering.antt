@@ -110,7 +110,7 @@ frame-regioned first t g c h = go (rests first t g c h)
     go (nothing k n) = bare (λ e q. k e (from-even q)) n (ap (regions_at t (even g.pc)) n)
 
 -- ---- all frames of a walk
-each : {room : ℕ} {first : Bool} {g : Regs} {w : Trail arm} (t : Inputs) → Walks arm (frames t) room first g w → All (Regioned t) w.frames
+each : (t : Inputs) {room : ℕ} {first : Bool} {g : Regs} {w : Trail arm} → Walks arm (frames t) room first g w → All (Regioned t) w.frames
 each t no_room = tt
 each t (refused r e) = tt
 each t (last {first = first} {g = g} c e z) = (frame-regioned first t g c (next-was arm (frames t) first g c e).0, tt)

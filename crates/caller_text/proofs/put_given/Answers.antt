@@ -1,7 +1,6 @@
 -- One text after another; the space behind the place's name is laid with it.
 -- Assumes nothing.
 use mathlib.Core.List.{◌++◌, append_assoc}
-use borrow.Author.Rules.{rules}
 use Rattle.text.specs.Text.{text, decimal}
 use Rattle.text.proofs.Overlaid.{joined, joined-two, laid_as}
 use Rattle.listing.specs.Listing.{place_name}

@@ -1,6 +1,5 @@
 -- One text after another.
 -- Assumes nothing.
-use borrow.Author.Rules.{rules}
 use Rattle.text.proofs.Overlaid.{joined}
 use Rattle.caller_text.proofs.put_integer.Goals as goal
 

@@ -1,12 +1,10 @@
 -- The loop's invariant: the lines of the registers below `i` are laid. The measure is what is left of 13.
 -- Assumes nothing.
-use Prim.Native.Nat.{◌+◌, ◌-◌, ◌≤◌}
+use Prim.Native.Nat.{◌+◌}
 use mathlib.Core.Path.{◌≡◌}
 use native.Mathlib.Numerals.{add-one}
 use native.Mathlib.Omega.{arith}
-use borrow.Author.Rules.{rules}
 use Rattle.text.specs.Text.{numbered}
-use Rattle.text.specs.Overlay.{Laid}
 use Rattle.caller_text.specs.CallerText.{r_line}
 use Rattle.text.proofs.Overlaid.{none, joined, laid-length}
 use Rattle.text.proofs.Numbers.{numbered-last}
@@ -27,6 +25,11 @@ overflow_add-i c = omega arith
 
 pub loop-i-smaller : goal.loop-i-smaller
 loop-i-smaller c = omega arith
+
+pub loop-i-preserved : goal.loop-i-preserved
+loop-i-preserved c =
+    let z : c.loop-i.i ≡ 0 + c.loop-i.i = omega arith in
+    (omega arith, rw (add-one, numbered-last (r_line c.args.r) 0 c.loop-i.i, ← z) (joined c.loop-i.invariant.1 c.put_integer-next.ensures))
 
 pub shape_of-out : goal.shape_of-out
 shape_of-out c = laid-length c.loop-i.invariant.1

@@ -1,15 +1,9 @@
 -- The loop's invariant: the lines of the registers below `i` are laid. The measure is what is left of 13.
 -- Assumes nothing.
-use Prim.Native.Nat.{◌+◌, ◌-◌, ◌≤◌}
-use mathlib.Core.Path.{◌≡◌}
-use native.Mathlib.Numerals.{add-one}
-use native.Mathlib.Omega.{arith}
-use borrow.Author.Rules.{rules}
+use Prim.Native.Nat.{◌-◌, ◌≤◌}
 use Rattle.text.specs.Text.{numbered}
 use Rattle.text.specs.Overlay.{Laid}
 use Rattle.caller_text.specs.CallerText.{r_line}
-use Rattle.text.proofs.Overlaid.{none, joined, laid-length}
-use Rattle.text.proofs.Numbers.{numbered-last}
 use Rattle.caller_text.proofs.put_integers.Given as goal
 
 abbrev pub invariant-loop-i : goal.invariant-loop-i

@@ -1,6 +1,5 @@
 -- One text after another.
 -- Assumes nothing.
-use borrow.Author.Rules.{rules}
 use Rattle.caller_text.specs.CallerText.{regs_text}
 use Rattle.text.proofs.Overlaid.{joined}
 use Rattle.caller_text.proofs.put_registers.Goals as goal

@@ -1,6 +1,5 @@
 -- Each arm lays the text of its verdict.
 -- Assumes nothing.
-use borrow.Author.Rules.{rules}
 use Rattle.caller_text.proofs.put_verdict.Goals as goal
 
 pub returns-in-Given : goal.returns-in-Given

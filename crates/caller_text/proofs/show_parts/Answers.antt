@@ -1,7 +1,6 @@
 -- The text is that of the frame's answer.
 -- Assumes nothing.
 use mathlib.Core.Path.{ap}
-use borrow.Author.Rules.{rules}
 use Rattle.caller_text.specs.CallerText.{unwound_text}
 use Rattle.text.proofs.Overlaid.{laid_as}
 use Rattle.caller_text.proofs.show_parts.Goals as goal
