@@ -1,4 +1,4 @@
-// calls walk|caller|none: calls a proved function of crates/exports on each report of standard input, which has its length before it. With
+// calls walk|caller|none: calls a proved function of crates/exports_c on each report of standard input, which has its length before it. With
 // `none`, which counts what reading costs, it calls nothing proved.
 
 #include "../tests/libc.h"

@@ -1,4 +1,4 @@
-// Puts requests to the proved functions of crates/exports, linked as a C program links them. Requests and answers: tests/README.md.
+// Puts requests to the proved functions of crates/exports_c, linked as a C program links them. Requests and answers: tests/README.md.
 
 #include "libc.h"
 
