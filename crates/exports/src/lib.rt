@@ -1,5 +1,5 @@
-// What a program in C or Rust links (`rt staticlib exports`). A slice is passed as a pointer and a length, an array as a pointer. No function
-// asks anything of what it is given.
+// What a program in C or Rust is given: `exports_c` makes an archive of it. A slice is passed as a pointer and a length, an array as a
+// pointer. No function asks anything of what it is given.
 #![tactic(auto)]
 
 ghost use Rattle.std.specs.Prelude.{◌≡◌, length};
@@ -21,16 +21,14 @@ use words::Halfwords;
 // buffer is left out (RULES 8.7).
 
 // The listing: at most 8,192 bytes.
-#[unsafe(no_mangle)]
-pub extern "C" fn leafbobbin_walk(report: &[u8], out: &mut [u8]) -> usize
+pub fn leafbobbin_walk(report: &[u8], out: &mut [u8]) -> usize
     ensures { (result ≡ length (listing report.now)) × (out.new ≡ overlay out.old 0 (listing report.now)) }
 {
     listing::list_report(report, out)
 }
 
 // One frame's answer with every register: at most 1,024 bytes.
-#[unsafe(no_mangle)]
-pub extern "C" fn leafbobbin_caller(report: &[u8], out: &mut [u8]) -> usize
+pub fn leafbobbin_caller(report: &[u8], out: &mut [u8]) -> usize
     ensures { (result ≡ length (spec_caller_text report.now)) × (out.new ≡ overlay out.old 0 (spec_caller_text report.now)) }
 {
     caller_text::show_caller(report, out)
@@ -66,8 +64,7 @@ fn tell(f: Found) -> Told
 }
 
 // The record of a pc: 1, its number, its start and its word; 0 four times if there is none.
-#[unsafe(no_mangle)]
-pub extern "C" fn leafbobbin_find(image: u32, pdata: &[u8], pc: u32, out: &mut [u64; 4]) -> u32
+pub fn leafbobbin_find(image: u32, pdata: &[u8], pc: u32, out: &mut [u64; 4]) -> u32
     ensures { FoundTold (found (find image pdata.now pc)) result out.new }
 {
     let t = tell(pdata::find(image, pdata, pc));
@@ -77,8 +74,7 @@ pub extern "C" fn leafbobbin_find(image: u32, pdata: &[u8], pc: u32, out: &mut [
 }
 
 // The bytes of the .xdata record at an RVA (RULES 2.13).
-#[unsafe(no_mangle)]
-pub extern "C" fn leafbobbin_size(rva: u32, xdata: &[u8], at: u32, bytes: &mut u32) -> u32
+pub fn leafbobbin_size(rva: u32, xdata: &[u8], at: u32, bytes: &mut u32) -> u32
     ensures { SizeTold (size_answer (spec_xdata_size (lent rva xdata.now) at)) result bytes.new }
 {
     let size = xdata::xdata_size(rva, xdata, at);
@@ -105,8 +101,7 @@ fn fields_in(fields: &[u32; 9]) -> Packed
 }
 
 // The packed word of nine fields (RULES 4.18).
-#[unsafe(no_mangle)]
-pub extern "C" fn leafbobbin_word(fields: &[u32; 9], word: &mut u32) -> u32
+pub fn leafbobbin_word(fields: &[u32; 9], word: &mut u32) -> u32
     ensures { WordTold (word_answer (spec_write_word (spec_fields_in fields.now))) result word.new }
 {
     let written = packed::write_word(fields_in(fields));
@@ -116,8 +111,7 @@ pub extern "C" fn leafbobbin_word(fields: &[u32; 9], word: &mut u32) -> u32
 }
 
 // The 16 code bytes of a packed word, and how many of them each of its lists has (RULES 4.19).
-#[unsafe(no_mangle)]
-pub extern "C" fn leafbobbin_codes(word: u32, bytes: &mut [u8; 16], lens: &mut [usize; 2]) -> u32
+pub fn leafbobbin_codes(word: u32, bytes: &mut [u8; 16], lens: &mut [usize; 2]) -> u32
     ensures { CodesTold (codes_answer (spec_write_codes word)) result bytes.new lens.new }
 {
     let codes = packed_codes::write_codes(word);
