@@ -53,6 +53,9 @@ fn put_if(out: &mut [u8; 16], at: usize, bit: u32, b: u8) -> usize
     at
 }
 
+// The largest amount, in words, that one byte codes (RULES 4.13).
+const NARROW_WORDS: u32 = 127;
+
 // The code of an amount, if it is not 0 (RULES 4.13).
 fn up(out: &mut [u8; 16], at: usize, amount: StackWords) -> usize
     requires { amount.0 < 1024 }
@@ -62,7 +65,7 @@ fn up(out: &mut [u8; 16], at: usize, amount: StackWords) -> usize
     if n == 0 {
         return at;
     }
-    if n <= 127 {
+    if n <= NARROW_WORDS {
         return put(out, at, n as u8);
     }
     let at = put(out, at, (0xE8 + n / 256) as u8);
@@ -80,6 +83,9 @@ fn adjust(out: &mut [u8; 16], at: usize, p: Packed, fold: bool) -> usize
     up(out, at, amount(p))
 }
 
+// The Reg that saves no d register (RULES 4.4).
+const NO_D: u32 = 7;
+
 // The code of the d list, if there is one (RULES 4.4).
 fn vpop(out: &mut [u8; 16], at: usize, p: Packed) -> usize
     requires { Fit p }
@@ -88,7 +94,7 @@ fn vpop(out: &mut [u8; 16], at: usize, p: Packed) -> usize
     if p.r != 1 {
         return at;
     }
-    if p.reg == 7 {
+    if p.reg == NO_D {
         return at;
     }
     put(out, at, (0xE0 + p.reg) as u8)

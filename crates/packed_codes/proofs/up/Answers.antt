@@ -7,12 +7,12 @@ use Rattle.packed_codes.proofs.up.Goals as goal
 pub returns-then-n-eq0 : goal.returns-then-n-eq0
 returns-then-n-eq0 c = nothing _ (rw (eq-eqb _ _ c.if-n-eq0.true) refl)
 
-pub returns-then-n-le127 : goal.returns-then-n-le127
-returns-then-n-le127 c =
+pub returns-then-n-le-NARROW_WORDS : goal.returns-then-n-le-NARROW_WORDS
+returns-then-n-le-NARROW_WORDS c =
     let b = c.before.before in
-    rw (ne_eqb _ _ b.if-n-eq0.false, le-leb _ 127 b.if-n-le127.true) c.put.ensures
+    rw (ne_eqb _ _ b.if-n-eq0.false, le-leb _ 127 b.if-n-le-NARROW_WORDS.true) c.put.ensures
 
 pub returns : goal.returns
 returns c =
     let b = c.before.before.before.before in
-    rw (ne_eqb _ _ b.if-n-eq0.false, lt-leb _ 127 b.if-n-le127.false) (joined _ _ _ c.put-at.ensures c.put-2.ensures)
+    rw (ne_eqb _ _ b.if-n-eq0.false, lt-leb _ 127 b.if-n-le-NARROW_WORDS.false) (joined _ _ _ c.put-at.ensures c.put-2.ensures)

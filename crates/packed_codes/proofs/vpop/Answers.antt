@@ -7,10 +7,10 @@ use Rattle.packed_codes.proofs.vpop.Goals as goal
 pub returns-then-p-ne1 : goal.returns-then-p-ne1
 returns-then-p-ne1 c = nothing _ (rw (ne_eqb _ _ c.if-p-ne1.true) refl)
 
-pub returns-then-p-eq7 : goal.returns-then-p-eq7
-returns-then-p-eq7 c = nothing _ (rw (eq-eqb _ _ c.if-p-ne1.false, eq-eqb _ 7 c.if-p-eq7.true) refl)
+pub returns-then-p-eq-NO_D : goal.returns-then-p-eq-NO_D
+returns-then-p-eq-NO_D c = nothing _ (rw (eq-eqb _ _ c.if-p-ne1.false, eq-eqb _ 7 c.if-p-eq-NO_D.true) refl)
 
 pub returns : goal.returns
 returns c =
     let b = c.before.before.before in
-    rw (eq-eqb _ _ b.if-p-ne1.false, ne_eqb _ 7 b.if-p-eq7.false) c.put.ensures
+    rw (eq-eqb _ _ b.if-p-ne1.false, ne_eqb _ 7 b.if-p-eq-NO_D.false) c.put.ensures
