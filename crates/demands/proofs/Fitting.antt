@@ -53,7 +53,7 @@ fit-number x w s (Record r) e = unread-number x w r (((exactly x w s).unread r).
 fit-number x w s Short e = inr (inr (inr refl))
 fit-number x w s (Differs o) e = inr (inr (inl refl))
 
--- ---- with more.xdata
+-- ---- with more .xdata
 module _ (x x' : Lent) (w : ℕ) (s : List ℕ) (m : More x x') (f : fit_xdata x' ≡ true) where
   stays-read : (y y' : Res Shape) → Stays y y' → lasts (either y (λ r. Refused (Record r)) (shape_fitted s)) ≡ true → either y' (λ r. Refused (Record r)) (shape_fitted s) ≡ either y (λ r. Refused (Record r)) (shape_fitted s)
   stays-read (ok sh) y' h l = rw (h refl) refl

@@ -26,7 +26,7 @@ pub record More (l l' : Lent) : Type 0 where
   pub base : l.base ≡ l'.base + length before
   pub bytes : l'.bytes ≡ before ++ (l.bytes ++ after)
 
--- the same inputs, with more.xdata and more stack, which pass 1
+-- the same inputs, with more .xdata and more stack, which pass 1
 pub record Wider (t t' : Inputs) : Type 0 where
   pub image : t'.image ≡ t.image
   pub pdata : t'.pdata ≡ t.pdata

@@ -39,6 +39,6 @@ pub record Order3 (a : Checker) : Type 0 where
   -- a record passes exactly if each of its instructions is the one that its code stands for, and so for each refusal
   pub exactly : (x : Lent) (w : ℕ) (s : List ℕ) → Exactly (a.fits x w s) x w s
   pub numbered : (x : Lent) (w : ℕ) (s : List ℕ) (r : FitRefusal) → a.fits x w s ≡ Refused r → FitNumber (fit_number r)
-  -- only lent bytes are read (RULES 1.8): with more.xdata around the same bytes, and more code behind the function, an answer stays, unless it
+  -- only lent bytes are read (RULES 1.8): with more .xdata around the same bytes, and more code behind the function, an answer stays, unless it
   -- was that something is not there
   pub stays : (x x' : Lent) (w : ℕ) (s more : List ℕ) → More x x' → fit_xdata x' ≡ true → lasts (a.fits x w s) ≡ true → a.fits x' w (s ++ more) ≡ a.fits x w s

@@ -6,7 +6,7 @@ use Rattle.lent.specs.Little.{word32}
 use Rattle.lent.specs.Lent.{Lent, lent}
 use Rattle.lent.specs.Parts.{same, part}
 
--- word 1 of a.pdata record, the .xdata by its RVA, and the bytes of the function
+-- word 1 of a .pdata record, the .xdata by its RVA, and the bytes of the function
 pub record FitFile : Type 0 where
   pub word : ℕ
   pub xdata : Lent

@@ -17,7 +17,7 @@ pub const FIT_BYTES: usize = 1048576;
 const HEAD_BYTES: usize = 24;
 
 // What a FIT file holds: its words, and where its parts lie in the file, each up to where the next one starts. A refusal's values are zeros.
-#[derive(Drop)]
+#[derive(Clone, Copy)]
 pub struct FitParts {
     pub verdict: Verdict,
     pub word: u32,

@@ -24,7 +24,7 @@ use Rattle.listing.specs.Listing.{refused_text, frame_line, last_line}
 use Rattle.regions.specs.Table.{Listed, listed, regions_of}
 use Rattle.region_text.specs.RegionText.{regions_text}
 
--- the regions of a.pdata record: a packed one has none (RULES 2.2)
+-- the regions of a .pdata record: a packed one has none (RULES 2.2)
 abbrev pub regions_by : Inputs → Entry → Listed
 regions_by t e = if eqb (bits 0 2 e.word) 0 then regions_of t.xdata e.word else listed []
 

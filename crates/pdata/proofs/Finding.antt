@@ -1,4 +1,4 @@
--- The order of a.pdata table, and why halving an ascending one finds the record that the definition finds.
+-- The order of a .pdata table, and why halving an ascending one finds the record that the definition finds.
 -- Assumes nothing.
 use Prim.Native.Nat.{ℕ, zero, suc, ◌+◌, ◌-◌, ◌*◌, ◌/◌, ◌%◌, ◌≤◌, ◌<◌}
 use mathlib.Core.Path.{◌≡◌, refl, ap, ◌∙◌}

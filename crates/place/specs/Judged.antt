@@ -1,4 +1,4 @@
--- 4 to 7 for word 1 of a.pdata record, without a pc (RULES 9.51, 9.52, 9.54): its record's view.
+-- 4 to 7 for word 1 of a .pdata record, without a pc (RULES 9.51, 9.52, 9.54): its record's view.
 use Rattle.std.specs.Prelude.{ℕ}
 use Rattle.words.specs.Answer.{Res, ◌>>=◌}
 use Rattle.lent.specs.Lent.{Lent}

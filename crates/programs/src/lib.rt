@@ -15,7 +15,7 @@ use std::io::{Read, Write};
 use streams::Item;
 
 // What comes next on standard input: a report of so many bytes, at the buffer's start; one inside which the input ended; or nothing more.
-#[derive(Drop)]
+#[derive(Clone, Copy)]
 pub enum Input {
     Report(usize),
     Cut,

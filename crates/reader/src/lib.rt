@@ -13,14 +13,14 @@ use codes::{Sized, size_at};
 use words::{CodeBytes, Refusal, halfword_bytes};
 
 // The reader of RULES 3.6: the code bytes, which are lent, and the index that it has come to.
-#[derive(Drop)]
+#[derive(Clone, Copy)]
 pub struct Reader<'a> {
     pub codes: &'a [u8],
     pub at: CodeBytes,
 }
 
 // What a reader took, without what it undoes, and the reader behind it.
-#[derive(Drop)]
+#[derive(Clone, Copy)]
 pub struct Step<'a> {
     pub taken: Sized,
     pub rest: Reader<'a>,

@@ -1,4 +1,4 @@
--- The shape of a.pdata record, full (RULES 2.6 to 2.12) or packed (RULES 4.17).
+-- The shape of a .pdata record, full (RULES 2.6 to 2.12) or packed (RULES 4.17).
 use Rattle.std.specs.Prelude.{ℕ, ◌+◌, ◌-◌, List, ◌∷◌, [], take, drop, eqb, if◌then◌else◌}
 use Rattle.words.specs.Bits.{bits}
 use Rattle.lent.specs.Lent.{Lent}

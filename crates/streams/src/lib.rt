@@ -9,7 +9,7 @@ use lent::word32;
 use std::io::Read;
 
 // What one read gave.
-#[derive(Drop)]
+#[derive(Clone, Copy)]
 enum Got {
     Bytes(usize),
     Ended,
@@ -17,7 +17,7 @@ enum Got {
 }
 
 // How many bytes came, and whether a read failed before all that were asked for had come.
-#[derive(Drop)]
+#[derive(Clone, Copy)]
 pub struct Filled {
     pub count: usize,
     pub failed: bool,
@@ -25,7 +25,7 @@ pub struct Filled {
 
 // What comes next (RULES 8.9 to 8.11): a report of so many bytes, at the buffer's start; one longer than the buffer, passed over; one
 // inside which the input ended or a read failed (true); or nothing more, because the input ended or a read failed (true).
-#[derive(Drop)]
+#[derive(Clone, Copy)]
 pub enum Item {
     Report(usize),
     TooLong,

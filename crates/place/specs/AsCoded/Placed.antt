@@ -41,6 +41,6 @@ abbrev pub placed_in : (xdata : List ℕ) → ReadOf → (offset : ℕ) → AnyP
 placed_in x f o =
     record { at = placed_by f.verdict f.plan (codes_in x f) x o; written = f.written; codes = f.codes; bytes = f.bytes }
 
--- by word 1 of a.pdata record
+-- by word 1 of a .pdata record
 abbrev pub any_placed : Lent → (word offset : ℕ) → AnyPlaced
 any_placed x w o = placed_in x.bytes (read_of x w) o

@@ -112,7 +112,7 @@ of_full f = record { verdict = f.verdict; plan = f.plan; written = false; codes 
 abbrev pub of_packed : PackedOf → ReadOf
 of_packed f = record { verdict = f.verdict; plan = f.plan; written = true; codes = record { start = 0; len = 0 }; bytes = f.bytes }
 
--- by word 1 of a.pdata record, which has Flag 0 for a full one
+-- by word 1 of a .pdata record, which has Flag 0 for a full one
 abbrev pub read_by : (full : Bool) → Lent → (word : ℕ) → ReadOf
 read_by true x w = of_full (full_answer (full_plan x w))
 read_by false x w = of_packed (packed_answer (packed_plan w))
