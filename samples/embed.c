@@ -3,7 +3,7 @@
 #include <stdint.h>
 #include <stdio.h>
 
-/* crates/exports: the result is the text's length, also where the buffer is too short for it. */
+/* crates/exports_c: the result is the text's length, also where the buffer is too short for it. */
 size_t leafbobbin_walk(const uint8_t *report, size_t report_bytes, uint8_t *out, size_t out_bytes);
 size_t leafbobbin_caller(const uint8_t *report, size_t report_bytes, uint8_t *out, size_t out_bytes);
 
