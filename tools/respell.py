@@ -22,11 +22,11 @@ def part(word):
 
 
 def prose(comment):
-    return TOKEN.sub(lambda m: m.group(0) if m.group(0).endswith("rX") else snake(m.group(0)), comment)
+    return TOKEN.sub(lambda m: m.group(0) if re.search(r"(^|-)[a-z][A-Z]$", m.group(0)) else snake(m.group(0)), comment)
 
 
 def by_line(text, mark, code):
-    """The text with its code respelled, and the names in its comments, where rX is the papers' word for a register."""
+    """The text with its code respelled, and the names in its comments, where rX, dS and the like are the papers' words for registers."""
     out = []
     for line in text.split("\n"):
         said, sep, comment = line.partition(mark)

@@ -25,7 +25,7 @@ pub enum Undo {
     Pop(u32),
     // SP becomes rX
     SpFrom(u32),
-    // d_s to d_e are popped
+    // dS to dE are popped
     Vpop(u32, u32),
     // LR takes the word at SP, and SP rises by so many words (RULES 3.14)
     LoadLr(StackWords),
@@ -113,7 +113,7 @@ fn pop(others: u32, lr: bool) -> Meaning
     Meaning::Does(Undo::Pop(others + lr_if(lr)))
 }
 
-// vpop d_s-d_e, where the list is not empty.
+// vpop dS-dE, where the list is not empty.
 fn vpop(s: u32, e: u32) -> Meaning
     ensures { result ≡ (if leb s e then Meaning.Does (Undo.Vpop s e) else Meaning.Undefined) }
 {

@@ -45,11 +45,11 @@ same-eq (x ∷ xs) (y ∷ ys) t =
     ap₂ ◌∷◌ (eqb→eq x y u.0) (same-eq xs ys u.1)
 
 -- ---- the registers of a list
--- r_s-r3
+-- rS-r3
 abbrev pub folds : Bool → (a : ℕ) → List ℕ
 folds f a = if f then upward (3 - a) (a + 1) else []
 
--- r4-r_n, r11
+-- r4-rN, r11
 abbrev pub names : (r reg c : ℕ) → List ℕ
 names r reg c = (if eqb r 0 then upward 4 (reg + 1) else []) ++ (if eqb c 1 then 11 ∷ [] else [])
 

@@ -217,7 +217,7 @@ fn pop(list: u32, r: &mut [u32; 13], sp: u32, lr: u32, base: u32, stack: &[u8]) 
     }
 }
 
-// Pops d_s to d_e by rising number (RULES 3.12).
+// Pops dS to dE by rising number (RULES 3.12).
 fn vpop(s: u32, e: u32, d: &mut [u64; 32], sp: u32, lr: u32, base: u32, stack: &[u8]) -> Undone
     ensures { (r : List ℕ) (pc : ℕ) → came result.verdict (regs r result.sp result.lr pc d.new) ≡ vpop_of (lent base stack.now) s (e + 1 - s) (regs r sp lr pc d.old) }
 {

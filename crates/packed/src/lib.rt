@@ -138,7 +138,7 @@ pub fn ef(p: Packed) -> bool
     folded(p) && bit(p.adjust, 3)
 }
 
-// r4 to r_n, which Reg names, if R=0 (RULES 4.3).
+// r4 to rN, which Reg names, if R=0 (RULES 4.3).
 fn saved(p: Packed) -> u32
     requires { Fit p }
     ensures { (result ≡ (if eqb p.r 0 then range_of 4 (4 + p.reg) else 0)) × (result < 4096) }
@@ -149,7 +149,7 @@ fn saved(p: Packed) -> u32
     0
 }
 
-// r_s to r3, which a folded adjustment adds (RULES 4.3).
+// rS to r3, which a folded adjustment adds (RULES 4.3).
 fn homed(adjust: u32, fold: bool) -> u32
     ensures { (result ≡ (if fold then range_of (3 - adjust % 4) 3 else 0)) × (result < 16) }
 {
@@ -178,7 +178,7 @@ fn list(p: Packed, fold: bool) -> u32
     saved(p) + homed(p.adjust, fold) + chained(p) + lr_if(p.l == 1)
 }
 
-// The integer list of a packed word, LR in it if L=1, and r_s-r3 if the adjustment is folded.
+// The integer list of a packed word, LR in it if L=1, and rS-r3 if the adjustment is folded.
 pub fn registers(word: u32, fold: bool) -> u32
     ensures { result ≡ integers_of (fields_of word) fold + spec_lr_if (fields_of word).l }
 {

@@ -32,7 +32,7 @@ use Rattle.packed_codes.proofs.Lengths.{first_with, lists-fit}
 use Rattle.packed_codes.proofs.Decoding.{codes_with, reversed, prologue-is}
 
 -- ---- which words
--- r4 to r_n alone, or with r_s to r3, is not r11
+-- r4 to rN alone, or with rS to r3, is not r11
 no-r11 : (reg homed : ℕ) → homed < 16 → range 4 (4 + reg) + homed ≡ 2 ^ 11 → ⊥
 no-r11 reg h l e = let q : 2 ^ (4 + reg + 1) ≡ 2 ^ 5 * 2 ^ reg = ap (λ n. 2 ^ n) (let z : 4 + reg + 1 ≡ 5 + reg = omega arith in z) ∙ pow-add 2 5 reg in omega (arith, q)
 

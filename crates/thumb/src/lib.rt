@@ -17,7 +17,7 @@ use words::{Halfwords, bit, bits};
 pub enum Action {
     Push(u32),
     Pop(u32),
-    // d_s to d_e are pushed, or popped
+    // dS to dE are pushed, or popped
     Vpush(u32, u32),
     Vpop(u32, u32),
     // SP falls, or rises
