@@ -1,5 +1,6 @@
 -- Which byte 6 tells: lists that are bad in each way, and records of which two lists are bad.
 -- Assumes nothing.
+use Rattle.std.specs.Prelude.{Err}
 use Prim.Native.Nat.{ℕ}
 use mathlib.Core.Path.{◌≡◌, refl}
 use mathlib.Core.Bool.{false}
@@ -7,7 +8,7 @@ use mathlib.Core.List.{List, [], ◌∷◌}
 use native.Mathlib.Omega.{arith}
 use Rattle.words.specs.Units.{code_bytes}
 use Rattle.words.specs.declared.Refusal.TheVariants.{BadCodes}
-use Rattle.words.specs.Answer.{Res, refuse}
+use Rattle.words.specs.Answer.{Res}
 use Rattle.unwinding.specs.CodeList.{Codes}
 use Rattle.unwinding.specs.Shape.{Shape}
 use Rattle.unwinding.specs.View.{View, view}
@@ -26,7 +27,7 @@ abbrev at : List ℕ → ℕ → Res (Codes Code)
 at s i = codes_at s (code_bytes i)
 
 abbrev byte : {A : Type 0} → ℕ → Res A
-byte j = refuse (BadCodes (code_bytes j))
+byte j = Err (BadCodes (code_bytes j))
 
 -- a code that is undefined by its first byte, by its second, or as the last byte tells where it begins
 undefined-1 : at (0xFB ∷ 0xEE ∷ 0xFF ∷ []) 0 ≡ byte 1

@@ -1,5 +1,6 @@
 -- A code list: it is read where it can be read, and else 6 tells the byte that the definition tells.
 -- Assumes nothing.
+use Rattle.std.specs.Prelude.{Ok, Err}
 use Prim.Native.Nat.{ℕ, ◌+◌, ◌≤◌}
 use mathlib.Core.Logic.{◌⊎◌, inl, inr}
 use mathlib.Core.Path.{◌≡◌, refl, sym, ap, subst, ◌∙◌}
@@ -10,7 +11,7 @@ use Rattle.words.specs.Units.{code_bytes}
 use Rattle.words.specs.declared.CodeBytes.{CodeBytes}
 use Rattle.words.specs.declared.Refusal.{Refusal}
 use Rattle.words.specs.declared.Refusal.TheVariants.{BadCodes}
-use Rattle.words.specs.Answer.{Res, ok, refuse, ◌>>=◌}
+use Rattle.words.specs.Answer.{Res, ◌>>=◌}
 use Rattle.unwinding.specs.CodeList.{Codes}
 use Rattle.unwinding.specs.Taking.{Scan, follow}
 use Rattle.unwinding.proofs.Scanning.{by-scan}
@@ -26,8 +27,8 @@ use Rattle.bad_byte.proofs.Codes.{Stands, begins-left, stands, takes_whole, tell
 
 -- what an answer says of the list at an index
 abbrev Told : {A : Type 0} → (s : List ℕ) (i : ℕ) → Res A → Type 0
-Told s i (ok a) = Reads s i
-Told s i (refuse r) = (j : ℕ) × (r ≡ BadCodes (code_bytes j)) × Bad s i j
+Told s i (Ok a) = Reads s i
+Told s i (Err r) = (j : ℕ) × (r ≡ BadCodes (code_bytes j)) × Bad s i j
 
 -- a whole code lies within the bytes
 inside : {s : List ℕ} {i : ℕ} {m : Meaning} (w : Whole s i m) → i + asked w.code ≤ length s
@@ -57,8 +58,8 @@ bad-at {i = i} (BadCode.cut c) = Bad.cut i (Decodes.none i) c
 
 module _ (s : List ℕ) where
   told-behind : (i : ℕ) {u : Undo} (w : Whole s i (Does u)) (x : Res ℕ) → Told s (i + asked w.code) x → Told s i x
-  told-behind i {u} w (ok n) t = record { at = t.at; before = Decodes.one i t.at u w t.before; end = t.end }
-  told-behind i w (refuse r) t = (t.0, t.1, bad-behind w t.2)
+  told-behind i {u} w (Ok n) t = record { at = t.at; before = Decodes.one i t.at u w t.before; end = t.end }
+  told-behind i w (Err r) t = (t.0, t.1, bad-behind w t.2)
 
   told-scan : (i : CodeBytes) → Told s i.0 (scan s i).ending
   told-scan =
@@ -74,36 +75,36 @@ module _ (s : List ℕ) where
   ending i = (scan s (code_bytes i)).ending
 
   abbrev codes_by : ℕ → Res ℕ → Res (Codes Code)
-  codes_by i x = x >>= λ n. ok (record { list = (scan s (code_bytes i)).list; end_size = n })
+  codes_by i x = x >>= λ n. Ok (record { list = (scan s (code_bytes i)).list; end_size = n })
 
   told-codes : (i : ℕ) → Told s i (codes_at s (code_bytes i))
   told-codes i = go (ending i) (told-scan (code_bytes i))
     where
       go : (x : Res ℕ) → Told s i x → Told s i (codes_by i x)
-      go (ok n) t = t
-      go (refuse r) t = t
+      go (Ok n) t = t
+      go (Err r) t = t
 
-  pub list-reads : (i : ℕ) (c : Codes Code) → codes_at s (code_bytes i) ≡ ok c → Reads s i
+  pub list-reads : (i : ℕ) (c : Codes Code) → codes_at s (code_bytes i) ≡ Ok c → Reads s i
   list-reads i c e = subst (Told s i) e (told-codes i)
 
-  pub list_tells : (i : ℕ) (r : Refusal) → codes_at s (code_bytes i) ≡ refuse r → (j : ℕ) × (r ≡ BadCodes (code_bytes j)) × Bad s i j
+  pub list_tells : (i : ℕ) (r : Refusal) → codes_at s (code_bytes i) ≡ Err r → (j : ℕ) × (r ≡ BadCodes (code_bytes j)) × Bad s i j
   list_tells i r e = subst (Told s i) e (told-codes i)
 
   -- ---- and the other way: codes that decode leave the ending to what follows them
-  ending-by : (i : ℕ) {x : Taken} → take_at s (code_bytes i) ≡ x → ending i ≡ (follow (seen x) (scan s)).ending
+  ending-by : (i : ℕ) {x : Taken Code} → take_at s (code_bytes i) ≡ x → ending i ≡ (follow (seen x) (scan s)).ending
   ending-by i e = ap (λ (x : Scan Code). x.ending) (scan-by s (code_bytes i) e)
 
   same-ending : {i k : ℕ} → Decodes s i k → ending i ≡ ending k
   same-ending (Decodes.none i) = refl
   same-ending (Decodes.one i k u c d) = ending-by i (takes_whole s i c) ∙ same-ending d
 
-  bad-ending : {i k : ℕ} (j : ℕ) → Decodes s i k → BadCode s k j → ending i ≡ refuse (BadCodes (code_bytes j))
+  bad-ending : {i k : ℕ} (j : ℕ) → Decodes s i k → BadCode s k j → ending i ≡ Err (BadCodes (code_bytes j))
   bad-ending {k = k} j d b = same-ending d ∙ ending-by k (tells-code s k j b)
 
-  pub reads-list : (i : ℕ) → Reads s i → (c : Codes Code) × (codes_at s (code_bytes i) ≡ ok c)
+  pub reads-list : (i : ℕ) → Reads s i → (c : Codes Code) × (codes_at s (code_bytes i) ≡ Ok c)
   reads-list i r = (_, ap (codes_by i) (same-ending r.before ∙ ending-by r.at (takes_whole s r.at r.end)))
 
-  pub tells-list : (i j : ℕ) → Bad s i j → codes_at s (code_bytes i) ≡ refuse (BadCodes (code_bytes j))
+  pub tells-list : (i j : ℕ) → Bad s i j → codes_at s (code_bytes i) ≡ Err (BadCodes (code_bytes j))
   tells-list i j (Bad.past h) = ap (codes_by i) (bad-ending i (Decodes.none i) (BadCode.past h))
   tells-list i j (Bad.undefined k d w) = ap (codes_by i) (bad-ending k d (BadCode.undefined w))
   tells-list i j (Bad.cut k d c) = ap (codes_by i) (bad-ending (length s) d (BadCode.cut c))

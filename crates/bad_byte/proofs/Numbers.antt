@@ -1,6 +1,6 @@
 -- Which refusal numbers a record's reading can give: 4 and 5 its head and scopes, 6 and 7 its lists.
 -- Assumes nothing.
-use Rattle.std.specs.Prelude.{if◌then◌else◌}
+use Rattle.std.specs.Prelude.{if◌then◌else◌, Ok, Err}
 use Prim.Native.Nat.{ℕ, zero, suc, ◌+◌}
 use mathlib.Core.Path.{◌≡◌, refl, ap, ◌∙◌, subst}
 use mathlib.Core.List.{List, [], ◌∷◌}
@@ -13,7 +13,7 @@ use Rattle.words.specs.Refusals.{number}
 use Rattle.words.specs.declared.CodeBytes.{CodeBytes}
 use Rattle.words.specs.declared.Refusal.{Refusal}
 use Rattle.words.specs.declared.Refusal.TheVariants.{Reserved, OutsideXdata, BadCodes, BadLayout}
-use Rattle.words.specs.Answer.{Res, ok, refuse, ◌>>=◌, ◌>>◌, need}
+use Rattle.words.specs.Answer.{Res, ◌>>=◌, ◌>>◌, need}
 use Rattle.lent.specs.Lent.{Lent, holds, word_at}
 use Rattle.unwinding.specs.CodeList.{total}
 use Rattle.unwinding.specs.Shape.{Shape}
@@ -30,18 +30,18 @@ use Rattle.record.specs.Record.{full_shape, packed_shape, shape_at}
 
 -- the number of a refusal of this answer is one of those
 abbrev pub Only : {A : Type 0} → (ℕ → Type 0) → Res A → Type 0
-Only P x = (r : Refusal) → x ≡ refuse r → P (number r)
+Only P x = (r : Refusal) → x ≡ Err r → P (number r)
 
 module _ (P : ℕ → Type 0) where
-  pub given : {A : Type 0} (a : A) → Only P (ok a)
+  pub given : {A : Type 0} (a : A) → Only P (Ok a)
   given a r e = absurd (let z : ◌≡◌ {A = ℕ} 0 1 = cc in omega arith)
 
-  pub refused : {A : Type 0} (q : Refusal) → P (number q) → Only {A = A} P (refuse q)
+  pub refused : {A : Type 0} (q : Refusal) → P (number q) → Only {A = A} P (Err q)
   refused q h r e = let z : q ≡ r = cc in subst (λ x. P (number x)) z h
 
   pub bound : {A B : Type 0} (x : Res A) (f : A → Res B) → Only P x → ((a : A) → Only P (f a)) → Only P (x >>= f)
-  bound (ok a) f h k = k a
-  bound (refuse q) f h k = refused q (h q refl)
+  bound (Ok a) f h k = k a
+  bound (Err q) f h k = refused q (h q refl)
 
   pub needed : {B : Type 0} (t : Bool) (q : Refusal) (y : Res B) → P (number q) → Only P y → Only P (need t q >> y)
   needed true q y h k = k
@@ -60,8 +60,8 @@ module _ (P : ℕ → Type 0) where
   only-head p4 p5 x a =
       needed (holds x a 4) OutsideXdata _ p5
       (needed (eqb (bits 18 2 (word_at x a)) 0) Reserved _ p4
-      (bound (if eqb (bits 23 9 (word_at x a)) 0 then long_head x a (word_at x a) else ok (short_head (word_at x a))) _
-      (either_way (eqb (bits 23 9 (word_at x a)) 0) (long_head x a (word_at x a)) (ok (short_head (word_at x a))) (only-long p4 p5 x a (word_at x a)) (given (short_head (word_at x a))))
+      (bound (if eqb (bits 23 9 (word_at x a)) 0 then long_head x a (word_at x a) else Ok (short_head (word_at x a))) _
+      (either_way (eqb (bits 23 9 (word_at x a)) 0) (long_head x a (word_at x a)) (Ok (short_head (word_at x a))) (only-long p4 p5 x a (word_at x a)) (given (short_head (word_at x a))))
       (λ h. needed (holds x a (record_bytes h)) OutsideXdata _ p5 (given h))))
 
   only-codes : P 4 → (w : ℕ) → Only P (write_codes w)
@@ -102,14 +102,14 @@ abbrev pub Other : ℕ → Type 0
 Other k = k ≡ 6 → ⊥
 
 pub through :
-    {A B : Type 0} (x : Res A) (f : A → Res B) (r : Refusal) → Only Other x → (x >>= f) ≡ refuse r → number r ≡ 6
-    → (a : A) × (x ≡ ok a) × (f a ≡ refuse r)
-through (ok a) f r o h n = (a, refl, h)
-through (refuse q) f r o h n = let e : q ≡ r = cc in absurd (o q refl (ap number e ∙ n))
+    {A B : Type 0} (x : Res A) (f : A → Res B) (r : Refusal) → Only Other x → (x >>= f) ≡ Err r → number r ≡ 6
+    → (a : A) × (x ≡ Ok a) × (f a ≡ Err r)
+through (Ok a) f r o h n = (a, refl, h)
+through (Err q) f r o h n = let e : q ≡ r = cc in absurd (o q refl (ap number e ∙ n))
 
 pub past-need :
-    {B : Type 0} (t : Bool) (q : Refusal) (y : Res B) (r : Refusal) → Other (number q) → (need t q >> y) ≡ refuse r → number r ≡ 6
-    → (t ≡ true) × (y ≡ refuse r)
+    {B : Type 0} (t : Bool) (q : Refusal) (y : Res B) (r : Refusal) → Other (number q) → (need t q >> y) ≡ Err r → number r ≡ 6
+    → (t ≡ true) × (y ≡ Err r)
 past-need true q y r o h n = (refl, h)
 past-need false q y r o h n = let e : q ≡ r = cc in absurd (o (ap number e ∙ n))
 

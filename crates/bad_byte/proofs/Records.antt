@@ -1,6 +1,6 @@
 -- A record: it is refused by 6 exactly if not all its lists can be read, and 6 then tells the byte of the first one that cannot.
 -- Assumes nothing.
-use Rattle.std.specs.Prelude.{if◌then◌else◌}
+use Rattle.std.specs.Prelude.{if◌then◌else◌, Ok, Err}
 use Prim.Native.Nat.{ℕ}
 use mathlib.Core.Logic.{◌⊎◌, inl, inr, ⊎_elim}
 use mathlib.Core.Path.{◌≡◌, refl, ap, subst, ◌∙◌}
@@ -12,7 +12,7 @@ use Rattle.words.specs.Refusals.{number}
 use Rattle.words.specs.declared.CodeBytes.{CodeBytes}
 use Rattle.words.specs.declared.Refusal.{Refusal}
 use Rattle.words.specs.declared.Refusal.TheVariants.{BadCodes, BadLayout}
-use Rattle.words.specs.Answer.{Res, ok, refuse, need, ◌>>=◌, ◌>>◌}
+use Rattle.words.specs.Answer.{Res, need, ◌>>=◌, ◌>>◌}
 use Rattle.unwinding.specs.CodeList.{Codes, total}
 use Rattle.unwinding.specs.Shape.{Shape}
 use Rattle.unwinding.specs.View.{EpilogueOf, View, fits, epilogues, view}
@@ -29,8 +29,8 @@ module _ (s : List ℕ) where
   reads-or i = go (codes_at s (code_bytes i)) refl
     where
       go : (x : Res (Codes Code)) → codes_at s (code_bytes i) ≡ x → Reads s i ⊎ ((j : ℕ) × Bad s i j)
-      go (ok c) e = inl (list-reads s i c e)
-      go (refuse r) e = let t = list_tells s i r e in inr (t.0, t.2)
+      go (Ok c) e = inl (list-reads s i c e)
+      go (Err r) e = let t = list_tells s i r e in inr (t.0, t.2)
 
   all-or : (l : List ℕ) → AllRead s l ⊎ ((j : ℕ) × FirstOf s l j)
   all-or [] = inl tt
@@ -61,32 +61,32 @@ first-once sh j k f g = same_first sh.codes f g
 
 -- ---- the view
 -- an answer goes on
-goes_on : {A B : Type 0} {x : Res A} {a : A} (f : A → Res B) → x ≡ ok a → (x >>= f) ≡ f a
+goes_on : {A B : Type 0} {x : Res A} {a : A} (f : A → Res B) → x ≡ Ok a → (x >>= f) ≡ f a
 goes_on f e = ap (λ y. y >>= f) e
 
 module _ (sh : Shape) where
   abbrev at : List Scope → List ℕ
   at es = map (λ (e : Scope). e.index.0) es
 
-  epilogues-tell : (j : ℕ) (es : List Scope) → FirstOf sh.codes (at es) j → epilogues size codes_at sh es ≡ refuse (BadCodes (code_bytes j))
+  epilogues-tell : (j : ℕ) (es : List Scope) → FirstOf sh.codes (at es) j → epilogues size codes_at sh es ≡ Err (BadCodes (code_bytes j))
   unfolding epilogues
   epilogues-tell j [] x' = elim x' [ ]
   epilogues-tell j (e ∷ es) (here b) = rw (tells-list sh.codes e.index.0 j b) refl
   epilogues-tell j (e ∷ es) (later r f) =
       rw ((reads-list sh.codes e.index.0 r).1, epilogues-tell j es f) refl
 
-  epilogues-read : (es : List Scope) → AllRead sh.codes (at es) → (l : List (EpilogueOf Code)) × (epilogues size codes_at sh es ≡ ok l)
+  epilogues-read : (es : List Scope) → AllRead sh.codes (at es) → (l : List (EpilogueOf Code)) × (epilogues size codes_at sh es ≡ Ok l)
   unfolding epilogues
   epilogues-read [] a = ([], refl)
   epilogues-read (e ∷ es) a = (_, goes_on _ (reads-list sh.codes e.index.0 a.0).1 ∙ goes_on _ (epilogues-read es a.1).1)
 
-  pub tells-record : (j : ℕ) → FirstBad sh j → view size codes_at sh ≡ refuse (BadCodes (code_bytes j))
+  pub tells-record : (j : ℕ) → FirstBad sh j → view size codes_at sh ≡ Err (BadCodes (code_bytes j))
   unfolding view
   tells-record j (here b) = rw (tells-list sh.codes 0 j b) refl
   tells-record j (later r f) = rw ((reads-list sh.codes 0 r).1, epilogues-tell j sh.scopes f) refl
 
   -- once all lists are read, only the layout is left
-  layout-left : AllRead sh.codes (indices sh) → (r : Refusal) → view size codes_at sh ≡ refuse r → r ≡ BadLayout
+  layout-left : AllRead sh.codes (indices sh) → (r : Refusal) → view size codes_at sh ≡ Err r → r ≡ BadLayout
   unfolding view
   layout-left a r h =
       let c = reads-list sh.codes 0 a.0 in
@@ -94,12 +94,12 @@ module _ (sh : Shape) where
       let p : ℕ = if sh.fragment then 0 else total size c.0.list in
       go (fits sh.span p l.0) (record { codes = c.0; prologue = p; epilogues = l.0 }) (rw (c.1, l.1) at h)
     where
-      go : (t : Bool) (v : View Code) → (need t BadLayout >> ok v) ≡ refuse r → r ≡ BadLayout
+      go : (t : Bool) (v : View Code) → (need t BadLayout >> Ok v) ≡ Err r → r ≡ BadLayout
       go true v q = absurd (let z : ◌≡◌ {A = ℕ} 0 1 = cc in omega arith)
       go false v q = cc
 
   pub record-tells :
-      (r : Refusal) → view size codes_at sh ≡ refuse r
+      (r : Refusal) → view size codes_at sh ≡ Err r
       → (r ≡ BadLayout) ⊎ ((j : ℕ) × (r ≡ BadCodes (code_bytes j)) × FirstBad sh j)
   record-tells r h =
       ⊎_elim (λ a. inl (layout-left a r h))
@@ -107,7 +107,7 @@ module _ (sh : Shape) where
       (reads-or-bad sh)
 
   -- so what is told is told of the first
-  pub first-told : (j : ℕ) → view size codes_at sh ≡ refuse (BadCodes (code_bytes j)) → FirstBad sh j
+  pub first-told : (j : ℕ) → view size codes_at sh ≡ Err (BadCodes (code_bytes j)) → FirstBad sh j
   first-told j h = go (record-tells (BadCodes (code_bytes j)) h)
     where
       go : (BadCodes (code_bytes j) ≡ BadLayout) ⊎ ((k : ℕ) × (BadCodes (code_bytes j) ≡ BadCodes (code_bytes k)) × FirstBad sh k) → FirstBad sh j

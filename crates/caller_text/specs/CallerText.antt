@@ -12,13 +12,12 @@
 --   d31 0000000000000000
 --
 -- A refused frame's first line is `refused R`, with the registers as given; a file that is no report has that line alone (RULES 8.5).
-use Rattle.std.specs.Prelude.{ℕ, List, ◌++◌, get_or}
+use Rattle.std.specs.Prelude.{ℕ, List, ◌++◌, get_or, Ok, Err}
 use Rattle.words.specs.declared.Place.{Place}
-use Rattle.words.specs.declared.Verdict.{Verdict}
-use Rattle.words.specs.declared.Verdict.TheVariants.{Given, Refused}
-use Rattle.words.specs.Answer.{either}
+use Rattle.words.specs.Answer.{Res, either}
 use Rattle.machine.specs.declared.Regs.{Regs}
 use Rattle.frame.specs.Frame.{frame, unwound}
+use Rattle.frame.specs.declared.Told.{Told}
 use Rattle.frame.specs.declared.Unwound.{Unwound}
 use Rattle.report.specs.Report.{report}
 use Rattle.text.specs.Text.{text, decimal, hex8, hex16, numbered}
@@ -46,12 +45,12 @@ regs_text g =
 abbrev pub given_text : Place → (handler codes : ℕ) → List ℕ
 given_text p h n = text "caller place " ++ text (place_name p) ++ text " handler " ++ hex8 h ++ text " codes " ++ decimal n
 
-abbrev pub verdict_text : Unwound → Verdict → List ℕ
-verdict_text u Given = given_text u.place u.handler u.codes
-verdict_text u (Refused r) = refused_text r
+abbrev pub told_text : Res Told → List ℕ
+told_text (Ok c) = given_text c.place c.handler c.codes
+told_text (Err r) = refused_text r
 
 unfoldable pub unwound_text : Unwound → List ℕ
-unwound_text u = verdict_text u u.verdict ++ text "\n" ++ regs_text u.regs
+unwound_text u = told_text u.told ++ text "\n" ++ regs_text u.regs
 
 -- a report's bytes in, the text out
 unfoldable pub caller_text : List ℕ → List ℕ

@@ -86,5 +86,5 @@ take_last s i e =
     ((row_at (drop i s)).size.0, w.0, (row-few (get_or (drop i s) 0 0)).small, omega (arith, w.1, length-drop i s))
 
 -- one code, and then the rest, by what stands there
-pub scan-by : (s : List ℕ) (i : CodeBytes) {x : Taken} → take_at s i ≡ x → scan s i ≡ follow (seen x) (scan s)
+pub scan-by : (s : List ℕ) (i : CodeBytes) {x : Taken Code} → take_at s i ≡ x → scan s i ≡ follow (seen x) (scan s)
 scan-by s i e = scan_step takes s i.0 ∙ ap (λ x. follow (seen x) (scan s)) e

@@ -20,8 +20,7 @@ use Rattle.codes.specs.declared.Meaning.TheVariants.{Does, End, Undefined}
 use Rattle.codes.specs.declared.Code.{Code}
 use Rattle.codes.specs.declared.Taken.{Taken}
 use Rattle.codes.specs.declared.Taken.TheVariants as T
-use Rattle.codes.specs.declared.Sized.{Sized}
-use Rattle.codes.specs.declared.Sized.TheVariants.{One, Last, Bad}
+use Rattle.codes.specs.declared.Taken.TheVariants.{One, Last, Bad}
 use Rattle.codes.proofs.Rows.{row-few}
 use Rattle.codes.proofs.Sorts.{entry-count, entry-halfwords, entry-sort, by_kind, two_bytes, by-second}
 use Rattle.codes.proofs.Taking.{take_whole}
@@ -29,7 +28,7 @@ use Rattle.codes.proofs.Values.{bytes, bytes_one, bytes-more}
 
 -- the code by its meaning's kind
 module _ (i : ℕ) (r : Row) where
-  abbrev passed : Sized
+  abbrev passed : Taken Halfwords
   passed = One r.size (code_bytes (i + r.bytes))
 
   kind_0 : (m : Meaning) → kind m ≡ 0 → passed ≡ sized (taken i r m)
@@ -112,7 +111,7 @@ module _ (s : List ℕ) (i : CodeBytes) where
   pub told-one : {z : Halfwords} {next : CodeBytes} → sized (take_at s i) ≡ One z next → (c : Code) × (seen (take_at s i) ≡ one c next) × (c.size ≡ z)
   told-one {z} {next} e = go (take_at s i) e
     where
-      go : (t : Taken) → sized t ≡ One z next → (c : Code) × (seen t ≡ one c next) × (c.size ≡ z)
+      go : (t : Taken Code) → sized t ≡ One z next → (c : Code) × (seen t ≡ one c next) × (c.size ≡ z)
       go (T.One c n) e = let p : n ≡ next = cc in (c, ap (one c) p, cc)
       go (T.Last n) e = absurd (let y : ◌≡◌ {A = ℕ} 0 1 = cc in omega arith)
       go (T.Bad j) e = absurd (let y : ◌≡◌ {A = ℕ} 0 1 = cc in omega arith)
@@ -120,7 +119,7 @@ module _ (s : List ℕ) (i : CodeBytes) where
   pub told-last : {z : Halfwords} → sized (take_at s i) ≡ Last z → seen (take_at s i) ≡ last (halfword_bytes z)
   told-last {z} e = go (take_at s i) e
     where
-      go : (t : Taken) → sized t ≡ Last z → seen t ≡ last (halfword_bytes z)
+      go : (t : Taken Code) → sized t ≡ Last z → seen t ≡ last (halfword_bytes z)
       go (T.One c n) e = absurd (let y : ◌≡◌ {A = ℕ} 0 1 = cc in omega arith)
       go (T.Last n) e = let p : n ≡ z = cc in ap (λ x. last (halfword_bytes x)) p
       go (T.Bad j) e = absurd (let y : ◌≡◌ {A = ℕ} 0 1 = cc in omega arith)
@@ -128,7 +127,7 @@ module _ (s : List ℕ) (i : CodeBytes) where
   pub told-bad : {k : CodeBytes} → sized (take_at s i) ≡ Bad k → seen (take_at s i) ≡ bad k
   told-bad {k} e = go (take_at s i) e
     where
-      go : (t : Taken) → sized t ≡ Bad k → seen t ≡ bad k
+      go : (t : Taken Code) → sized t ≡ Bad k → seen t ≡ bad k
       go (T.One c n) e = absurd (let y : ◌≡◌ {A = ℕ} 0 1 = cc in omega arith)
       go (T.Last n) e = absurd (let y : ◌≡◌ {A = ℕ} 0 1 = cc in omega arith)
       go (T.Bad j) e = let p : j ≡ k = cc in ap bad p

@@ -27,14 +27,14 @@ value [] v = v
 value (b ∷ s) v = value s (256 * v + b)
 
 -- what a code of a row's size and bytes is, at an index, by its meaning
-abbrev pub taken : (at : ℕ) → Row → Meaning → Taken
+abbrev pub taken : (at : ℕ) → Row → Meaning → Taken Code
 taken at r (Does u) = One (record { undo = u; size = r.size }) (code_bytes (at + r.bytes))
 taken at r End = Last r.size
 taken at r Undefined = Bad (code_bytes at)
 
 -- the code at the front of the bytes that are left, the first of which has index `at`. Refusal 6 holds the number of RULES 3.8: where an
 -- undefined code begins, or how many bytes there are if a code lacks some
-unfoldable pub take_from : (at : ℕ) → (left : List ℕ) → Taken
+unfoldable pub take_from : (at : ℕ) → (left : List ℕ) → Taken Code
 take_from at [] = Bad (code_bytes at)
 take_from at (b ∷ s) =
     let r = row_of b in
@@ -42,11 +42,11 @@ take_from at (b ∷ s) =
     then taken at r (r.means (value (take r.bytes (b ∷ s)) 0))
     else Bad (code_bytes (at + length (b ∷ s)))
 
-abbrev pub take_at : List ℕ → CodeBytes → Taken
+abbrev pub take_at : List ℕ → CodeBytes → Taken Code
 take_at s i = take_from i.0 (drop i.0 s)
 
 -- the same on any machine's terms: an end code's size in bytes
-abbrev pub seen : Taken → AnyTaken Code
+abbrev pub seen : Taken Code → AnyTaken Code
 seen (One c next) = one c next
 seen (Last n) = last (halfword_bytes n)
 seen (Bad i) = bad i

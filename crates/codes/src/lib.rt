@@ -48,23 +48,14 @@ pub struct Code {
     pub size: Halfwords,
 }
 
-// One code taken from code bytes.
+// What is taken from code bytes: a code, or, for whoever goes over a list without undoing it, its instruction's size alone.
 #[derive(Clone, Copy)]
-pub enum Taken {
+pub enum Taken<T> {
     // a code, and the index of what follows it
-    One(Code, CodeBytes),
+    One(T, CodeBytes),
     // an end code, with its instruction's size
     Last(Halfwords),
     // no code, with the index that refusal 6 holds
-    Bad(CodeBytes),
-}
-
-// The same without what a code undoes.
-#[derive(Clone, Copy)]
-pub enum Sized {
-    // the size of a code's instruction, and the index of what follows the code
-    One(Halfwords, CodeBytes),
-    Last(Halfwords),
     Bad(CodeBytes),
 }
 
@@ -198,7 +189,7 @@ fn value(codes: &[u8], at: usize, n: usize) -> u32
 }
 
 // The code at an index, by its first byte, its size and its value; `next` is the index of what follows it.
-fn take_as(b: u8, size: Halfwords, v: u32, at: CodeBytes, next: CodeBytes) -> Taken
+fn take_as(b: u8, size: Halfwords, v: u32, at: CodeBytes, next: CodeBytes) -> Taken<Code>
     requires { (size ≡ (spec_row_of b).size) × (next ≡ spec_code_bytes (at.0 + (spec_row_of b).bytes)) }
     ensures { result ≡ taken_of at.0 (spec_row_of b) ((spec_row_of b).means v) }
 {
@@ -211,7 +202,7 @@ fn take_as(b: u8, size: Halfwords, v: u32, at: CodeBytes, next: CodeBytes) -> Ta
 }
 
 // The code at an index of the code bytes. The table is lent: `t` is what `row_table` gives.
-pub fn take_at(t: &[u8; 256], codes: &[u8], at: CodeBytes) -> Taken
+pub fn take_at(t: &[u8; 256], codes: &[u8], at: CodeBytes) -> Taken<Code>
     requires { t.now ≡ row_numbers }
     ensures { result ≡ spec_take_at codes.now at }
 {
@@ -246,7 +237,7 @@ fn fits(sort: u8, second: u8) -> bool
 }
 
 // The code at an index by its entry of the table, where all its bytes are.
-fn size_as(row: u8, codes: &[u8], at: CodeBytes) -> Sized
+fn size_as(row: u8, codes: &[u8], at: CodeBytes) -> Taken<Halfwords>
     requires { (row ≡ entry_of (get_or codes.now at.0 0)) × (at.0 + (spec_row_of (get_or codes.now at.0 0)).bytes ≤ length codes.now) }
     ensures { result ≡ sized (spec_take_at codes.now at) }
 {
@@ -254,32 +245,32 @@ fn size_as(row: u8, codes: &[u8], at: CodeBytes) -> Sized
     let size = Halfwords((row / 8 % 4) as u32);
     let next = CodeBytes(at.0 + (row % 8) as usize);
     if sort == 0 {
-        return Sized::One(size, next);
+        return Taken::One(size, next);
     }
     if sort == 1 {
-        return Sized::Last(size);
+        return Taken::Last(size);
     }
     if sort == 2 {
-        return Sized::Bad(at);
+        return Taken::Bad(at);
     }
     if fits(sort, codes[at.0 + 1]) {
-        return Sized::One(size, next);
+        return Taken::One(size, next);
     }
-    Sized::Bad(at)
+    Taken::Bad(at)
 }
 
 // The code at an index without what it undoes, which going over a list does not need: the entry's sort says what it is.
-pub fn size_at(t: &[u8; 256], codes: &[u8], at: CodeBytes) -> Sized
+pub fn size_at(t: &[u8; 256], codes: &[u8], at: CodeBytes) -> Taken<Halfwords>
     requires { t.now ≡ row_numbers }
     ensures { result ≡ sized (spec_take_at codes.now at) }
 {
     let i = at.0;
     if codes.len() <= i {
-        return Sized::Bad(at);
+        return Taken::Bad(at);
     }
     let row = row_of(t, codes[i]);
     if codes.len() - i < (row % 8) as usize {
-        return Sized::Bad(CodeBytes(codes.len()));
+        return Taken::Bad(CodeBytes(codes.len())); // cut short
     }
     size_as(row, codes, at)
 }

@@ -1,18 +1,15 @@
 -- Comparing the items of a prologue or an epilogue in turn is what one pass over the codes does; and all fit exactly if none differs.
 -- Assumes nothing.
-use Rattle.std.specs.Prelude.{if◌then◌else◌}
+use Rattle.std.specs.Prelude.{if◌then◌else◌, Ok, Err}
 use Prim.Native.Nat.{ℕ, ◌+◌}
 use mathlib.Core.Path.{◌≡◌, refl, sym, ap, ◌∙◌}
 use mathlib.Core.List.{List, [], ◌∷◌, ◌++◌}
 use mathlib.Core.Bool.{Bool, true, false, ◌||◌}
 use lib.Dec.{eqb}
-use Rattle.words.specs.Answer.{ok}
 use Rattle.unwinding.specs.CodeList.{total}
 use Rattle.expected.specs.Expected.{before, after, ending}
-use Rattle.comparing.specs.Items.{Coded, size_of, opens, leaves, Item, fits, compared, is_last, item, prologue_items, epilogue_items}
+use Rattle.comparing.specs.Items.{Coded, size_of, opens, leaves, Item, fits, Compared, differs, compared, is_last, item, prologue_items, epilogue_items}
 use Rattle.comparing.specs.AsCoded.Passes.{last_of, or_else, test, prologue_pass, epilogue_pass}
-use Rattle.comparing.specs.declared.Compared.{Compared}
-use Rattle.comparing.specs.declared.Compared.TheVariants.{Same, Differs}
 
 pub compared-append : (a b : List Item) → compared (a ++ b) ≡ or_else (compared a) (compared b)
 unfolding compared
@@ -21,13 +18,13 @@ compared-append (i ∷ a) b = go (fits i) (compared-append a b)
   where
     go :
         (t : Bool) → compared (a ++ b) ≡ or_else (compared a) (compared b)
-        → (if t then compared (a ++ b) else Differs i.offset) ≡ or_else (if t then compared a else Differs i.offset) (compared b)
+        → (if t then compared (a ++ b) else differs i.offset) ≡ or_else (if t then compared a else differs i.offset) (compared b)
     go true ih = ih
     go false ih = refl
 
 or_assoc : (a b c : Compared) → or_else (or_else a b) c ≡ or_else a (or_else b c)
-or_assoc Same b c = refl
-or_assoc (Differs o) b c = refl
+or_assoc (Ok u) b c = refl
+or_assoc (Err e) b c = refl
 
 module _ (s : List ℕ) where
   -- a prologue from its end down: what is found before stands behind
@@ -40,28 +37,28 @@ module _ (s : List ℕ) where
       ∙ sym (or_assoc (compared (prologue_items s cs)) (compared (item s (total size_of cs) (opens c) ∷ [])) found)
       ∙ ap (λ x. or_else x found) (sym (compared-append (prologue_items s cs) (item s (total size_of cs) (opens c) ∷ [])))
     where
-      go : (t : Bool) → (if t then found else Differs (total size_of cs)) ≡ or_else (if t then Same else Differs (total size_of cs)) found
+      go : (t : Bool) → (if t then found else differs (total size_of cs)) ≡ or_else (if t then Ok tt else differs (total size_of cs)) found
       go true = refl
       go false = refl
 
-  pub prologue-compared : (cs : List Coded) → prologue_pass s cs Same ≡ compared (prologue_items s cs)
-  prologue-compared cs = prologue-found cs Same ∙ none (compared (prologue_items s cs))
+  pub prologue-compared : (cs : List Coded) → prologue_pass s cs (Ok tt) ≡ compared (prologue_items s cs)
+  prologue-compared cs = prologue-found cs (Ok tt) ∙ none (compared (prologue_items s cs))
     where
-      none : (x : Compared) → or_else x Same ≡ x
-      none Same = refl
-      none (Differs o) = refl
+      none : (x : Compared) → or_else x (Ok tt) ≡ x
+      none (Ok u) = refl
+      none (Err e) = refl
 
-  last-same : (cs : List Coded) (e : ℕ) → last_of cs (ok e) ≡ is_last cs e
+  last-same : (cs : List Coded) (e : ℕ) → last_of cs (Ok e) ≡ is_last cs e
   last-same [] e = refl
   last-same (c ∷ cs) e = refl
 
-  pub epilogue-compared : (o : ℕ) (cs : List Coded) (e : ℕ) → epilogue_pass s o cs (ok e) ≡ compared (epilogue_items s o cs e)
+  pub epilogue-compared : (o : ℕ) (cs : List Coded) (e : ℕ) → epilogue_pass s o cs (Ok e) ≡ compared (epilogue_items s o cs e)
   unfolding epilogue_pass epilogue_items compared
   epilogue-compared o [] e = go (eqb e 0)
     where
-      go : (z : Bool) → (if z || test s o (ending e) then Same else Differs o) ≡ compared (if z then [] else item s o (leaves e) ∷ [])
+      go : (z : Bool) → (if z || test s o (ending e) then Ok tt else differs o) ≡ compared (if z then [] else item s o (leaves e) ∷ [])
       go true = refl
       go false = refl
   epilogue-compared o (c ∷ cs) e =
-      ap (λ b. if test s o (after b c.code) then epilogue_pass s (o + size_of c) cs (ok e) else Differs o) (last-same cs e)
-      ∙ ap (λ x. if test s o (after (is_last cs e) c.code) then x else Differs o) (epilogue-compared (o + size_of c) cs e)
+      ap (λ b. if test s o (after b c.code) then epilogue_pass s (o + size_of c) cs (Ok e) else differs o) (last-same cs e)
+      ∙ ap (λ x. if test s o (after (is_last cs e) c.code) then x else differs o) (epilogue-compared (o + size_of c) cs e)

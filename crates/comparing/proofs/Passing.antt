@@ -19,18 +19,15 @@ use Rattle.codes.specs.AsCoded.Sizing.{sized}
 use Rattle.codes.specs.declared.Code.{Code}
 use Rattle.codes.specs.declared.Undo.{Undo}
 use Rattle.codes.specs.declared.Undo.TheVariants.{Up, Pop, SpFrom, Vpop, LoadLr, Nothing}
+use Rattle.words.specs.declared.Halfwords.{Halfwords}
 use Rattle.codes.specs.declared.Taken.{Taken}
 use Rattle.codes.specs.declared.Taken.TheVariants as T
-use Rattle.codes.specs.declared.Sized.{Sized}
-use Rattle.codes.specs.declared.Sized.TheVariants as Z
 use Rattle.codes.proofs.Scanning.{took}
 use Rattle.codes.proofs.Sound.{Sound, sound-code}
 use Rattle.codes.proofs.Registers.{list-small}
 use Rattle.expected.specs.Expected.{Listed, before, after}
-use Rattle.comparing.specs.Items.{Coded, size_of, scan_coded}
+use Rattle.comparing.specs.Items.{Coded, size_of, scan_coded, Compared, differs}
 use Rattle.comparing.specs.AsCoded.Passes.{last_of, test, prologue_pass, end_pass, epilogue_pass}
-use Rattle.comparing.specs.declared.Compared.{Compared}
-use Rattle.comparing.specs.declared.Compared.TheVariants.{Differs}
 use Rattle.comparing.proofs.Scanning.{scan-one, scan-last, scan-bad}
 
 -- a test whose opposite was made
@@ -43,10 +40,10 @@ not-true true h = sym h
 not-true false h = refl
 
 -- whether FF stands at an index, by what was taken there
-abbrev pub last_by : Sized → Bool
-last_by (Z.One z next) = false
-last_by (Z.Last n) = eqb n.0 0
-last_by (Z.Bad i) = false
+abbrev pub last_by : Taken Halfwords → Bool
+last_by (T.One z next) = false
+last_by (T.Last n) = eqb n.0 0
+last_by (T.Bad i) = false
 
 twice : (n : ℕ) → eqb (2 * n) 0 ≡ eqb n 0
 twice zero = refl
@@ -55,7 +52,7 @@ twice (suc n) = ne_eqb (2 * suc n) 0 (λ h. omega arith) ∙ sym (ne_eqb (suc n)
 pub last_taken : (s : List ℕ) (i : CodeBytes) → last_of (scan_coded s i).list (scan_coded s i).ending ≡ last_by (sized (take_at s i))
 last_taken s i = go (take_at s i) refl
   where
-    go : (x : Taken) → take_at s i ≡ x → last_of (scan_coded s i).list (scan_coded s i).ending ≡ last_by (sized x)
+    go : (x : Taken Code) → take_at s i ≡ x → last_of (scan_coded s i).list (scan_coded s i).ending ≡ last_by (sized x)
     go (T.One c next) e = ap (λ (x : Scan Coded). last_of x.list x.ending) (scan-one s i.0 e)
     go (T.Last n) e = ap (λ (x : Scan Coded). last_of x.list x.ending) (scan-last s i.0 e) ∙ twice n.0
     go (T.Bad j) e = ap (λ (x : Scan Coded). last_of x.list x.ending) (scan-bad s i.0 e)
@@ -86,7 +83,7 @@ module _ (s codes : List ℕ) (i : ℕ) where
     pub prologue-one :
         (found : Compared)
         → prologue_pass s (scan_coded codes (code_bytes i)).list found
-        ≡ prologue_pass s (scan_coded codes next).list (if test s (total size_of (scan_coded codes next).list) (before (get_or codes i 0) c) then found else Differs (total size_of (scan_coded codes next).list))
+        ≡ prologue_pass s (scan_coded codes next).list (if test s (total size_of (scan_coded codes next).list) (before (get_or codes i 0) c) then found else differs (total size_of (scan_coded codes next).list))
     unfolding prologue_pass
     prologue-one found = ap (λ (x : Scan Coded). prologue_pass s x.list found) (scan-one codes i e)
 
@@ -95,7 +92,7 @@ module _ (s codes : List ℕ) (i : ℕ) where
         → epilogue_pass s o (scan_coded codes (code_bytes i)).list (scan_coded codes (code_bytes i)).ending
         ≡ (if test s o (after (last_of (scan_coded codes next).list (scan_coded codes next).ending) c)
         then epilogue_pass s (o + size c) (scan_coded codes next).list (scan_coded codes next).ending
-        else Differs o)
+        else differs o)
     unfolding epilogue_pass
     epilogue-one o = ap (λ (x : Scan Coded). epilogue_pass s o x.list x.ending) (scan-one codes i e)
 

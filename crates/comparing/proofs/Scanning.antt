@@ -1,5 +1,6 @@
 -- Codes beside their first bytes are taken as codes are: one code, and then the rest; and without those bytes they are the record's view.
 -- Assumes nothing.
+use Rattle.std.specs.Prelude.{Ok}
 use Prim.Native.Nat.{ℕ, ◌+◌}
 use mathlib.Core.Path.{◌≡◌, refl, sym, ap, ap₂, ◌∙◌}
 use mathlib.Core.List.{List, [], ◌∷◌, map}
@@ -9,7 +10,6 @@ use native.Mathlib.Omega.{arith}
 use Rattle.words.specs.Units.{code_bytes, halfword_bytes}
 use Rattle.words.specs.declared.CodeBytes.{CodeBytes}
 use Rattle.words.specs.declared.Halfwords.{Halfwords}
-use Rattle.words.specs.Answer.{ok}
 use Rattle.unwinding.specs.CodeList.{total}
 use Rattle.unwinding.specs.Shape.{Shape}
 use Rattle.unwinding.specs.Taking.{Taken as AnyTaken, one, last, bad, nothing, follow}
@@ -61,7 +61,7 @@ module _ (s : List ℕ) (i : ℕ) where
   front : get_or (drop i s) 0 0 ≡ get_or s i 0
   front = get_or-drop i s 0 0 ∙ ap (λ k. get_or s k 0) (let z : i + 0 ≡ i = omega arith in z)
 
-  by : {x : Taken} → take_at s (code_bytes i) ≡ x → scan_coded s (code_bytes i) ≡ follow (with_first (get_or s i 0) (seen x)) (scan_coded s)
+  by : {x : Taken Code} → take_at s (code_bytes i) ≡ x → scan_coded s (code_bytes i) ≡ follow (with_first (get_or s i 0) (seen x)) (scan_coded s)
   by e = scan_step takes-coded s i ∙ ap₂ (λ b x. follow (with_first b (seen x)) (scan_coded s)) front e
 
   pub scan-one :
@@ -69,7 +69,7 @@ module _ (s : List ℕ) (i : ℕ) where
       → scan_coded s (code_bytes i) ≡ record { list = coded c (get_or s i 0) ∷ (scan_coded s next).list; ending = (scan_coded s next).ending }
   scan-one e = by e
 
-  pub scan-last : {n : Halfwords} → take_at s (code_bytes i) ≡ Last n → scan_coded s (code_bytes i) ≡ record { list = []; ending = ok (halfword_bytes n) }
+  pub scan-last : {n : Halfwords} → take_at s (code_bytes i) ≡ Last n → scan_coded s (code_bytes i) ≡ record { list = []; ending = Ok (halfword_bytes n) }
   scan-last e = by e
 
   pub scan-bad : {j : CodeBytes} → take_at s (code_bytes i) ≡ Bad j → scan_coded s (code_bytes i) ≡ nothing j

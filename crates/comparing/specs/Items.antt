@@ -1,6 +1,6 @@
 -- The instructions of a prologue and of an epilogue end to end, each with its offset and its code (RULES 13.4), and the first that is not
 -- the one that its code stands for.
-use Rattle.std.specs.Prelude.{ℕ, ◌+◌, List, [], ◌∷◌, ◌++◌, Bool, false, eqb, get_or, if◌then◌else◌}
+use Rattle.std.specs.Prelude.{ℕ, ◌+◌, List, [], ◌∷◌, ◌++◌, Bool, false, eqb, get_or, if◌then◌else◌, Result, Ok, Err}
 use Rattle.words.specs.declared.CodeBytes.{CodeBytes}
 use Rattle.words.specs.Answer.{Res}
 use Rattle.unwinding.specs.CodeList.{Codes, total}
@@ -12,8 +12,7 @@ use Rattle.thumb.specs.Instruction.{instruction_at}
 use Rattle.thumb.specs.declared.Instruction.{Instruction}
 use Rattle.expected.specs.Expected.{before, after, ending, meets}
 use Rattle.expected.specs.declared.Expected.{Expected}
-use Rattle.comparing.specs.declared.Compared.{Compared}
-use Rattle.comparing.specs.declared.Compared.TheVariants.{Same, Differs}
+use Rattle.comparing.specs.declared.Differs.{Differs}
 
 -- a code beside its first byte, which tells 04 from F7 00 04
 pub record Coded : Type 0 where
@@ -57,10 +56,16 @@ pub record Item : Type 0 where
 abbrev pub fits : Item → Bool
 fits i = meets (expects i.role) i.found
 
--- the first that does not fit
+-- that all fit, or the offset of the first that does not
+abbrev pub Compared : Type 0
+Compared = Result (Unit {0}) Differs
+
+abbrev pub differs : (offset : ℕ) → Compared
+differs o = Err (record { 0 = o })
+
 unfoldable pub compared : List Item → Compared
-compared [] = Same
-compared (i ∷ is) = let further = compared is in if fits i then further else Differs i.offset
+compared [] = Ok tt
+compared (i ∷ is) = let further = compared is in if fits i then further else differs i.offset
 
 -- whether a code is the last before FF
 abbrev pub is_last : (behind : List Coded) → (end_size : ℕ) → Bool

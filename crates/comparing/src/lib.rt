@@ -2,24 +2,20 @@
 // neither records nor files.
 #![tactic(auto)]
 
-ghost use Rattle.std.specs.Prelude.{◌≡◌, ◌+◌, ◌*◌, ◌^◌, ◌<◌, length, if◌then◌else◌};
+ghost use Rattle.std.specs.Prelude.{◌≡◌, ◌+◌, ◌*◌, ◌^◌, ◌<◌, length, if◌then◌else◌, Ok};
 ghost use Rattle.words.specs.Units.{code_bytes, halfword_bytes as spec_halfword_bytes};
-ghost use Rattle.words.specs.Answer.{ok};
 ghost use Rattle.unwinding.specs.CodeList.{total};
 ghost use Rattle.codes.specs.AsCoded.Rows.{row_numbers};
-ghost use Rattle.comparing.specs.Items.{size_of, scan_coded};
+ghost use Rattle.comparing.specs.Items.{size_of, scan_coded, differs};
 ghost use Rattle.comparing.specs.AsCoded.Passes as P;
 
-use codes::{Sized, Taken, size_at, take_at};
+use codes::{Taken, size_at, take_at};
 use expected::Expected;
 use words::{CodeBytes, Halfwords, halfword_bytes};
 
-// The first instruction that is not the expected one, by its offset.
+// The offset of the first instruction that is not the expected one.
 #[derive(Clone, Copy)]
-pub enum Compared {
-    Same,
-    Differs(u64),
-}
+pub struct Differs(pub u64);
 
 // Whether the instruction at an offset is an expected one.
 fn stands(code: &[u8], at: u64, e: Expected) -> bool
@@ -29,19 +25,19 @@ fn stands(code: &[u8], at: u64, e: Expected) -> bool
 }
 
 // What is found with one more test, at an offset below the others.
-fn noted(found: Compared, met: bool, at: u64) -> Compared
-    ensures { result ≡ (if met then found else Compared.Differs at) }
+fn noted(found: Result<(), Differs>, met: bool, at: u64) -> Result<(), Differs>
+    ensures { result ≡ (if met then found else differs at) }
 {
-    if met { found } else { Compared::Differs(at) }
+    if met { found } else { Err(Differs(at)) }
 }
 
 // The first instruction of a prologue that is not the one of its code. Its codes are those from index 0, whose instructions take so many
 // bytes: the first code's stands last. The table of codes is lent.
-pub fn prologue(t: &[u8; 256], codes: &[u8], code: &[u8], size: u64) -> Compared
+pub fn prologue(t: &[u8; 256], codes: &[u8], code: &[u8], size: u64) -> Result<(), Differs>
     requires { (t.now ≡ row_numbers) × (size ≡ total size_of (scan_coded codes.now (code_bytes 0)).list) }
-    ensures { result ≡ P.prologue_pass code.now (scan_coded codes.now (code_bytes 0)).list Compared.Same }
+    ensures { result ≡ P.prologue_pass code.now (scan_coded codes.now (code_bytes 0)).list (Ok tt) }
 {
-    let mut found = Compared::Same;
+    let mut found = Ok(());
     let mut left = size;
     let mut i: usize = 0;
     while i < codes.len() {
@@ -71,24 +67,30 @@ fn returns_at(t: &[u8; 256], codes: &[u8], at: CodeBytes) -> bool
     ensures { result ≡ P.last_of (scan_coded codes.now at).list (scan_coded codes.now at).ending }
 {
     match size_at(t, codes, at) {
-        Sized::One(_, _) => false,
-        Sized::Last(n) => n.0 == 0,
-        Sized::Bad(_) => false,
+        Taken::One(_, _) => false,
+        Taken::Last(n) => n.0 == 0,
+        Taken::Bad(_) => false,
     }
 }
 
 // The instruction of an end code of this size, if it has one.
-fn end_at(code: &[u8], at: u64, size: Halfwords) -> Compared
-    ensures { result ≡ P.end_pass code.now at (ok (spec_halfword_bytes size)) }
+fn end_at(code: &[u8], at: u64, size: Halfwords) -> Result<(), Differs>
+    ensures { result ≡ P.end_pass code.now at (Ok (spec_halfword_bytes size)) }
 {
     if size.0 == 0 {
-        return Compared::Same;
+        return Ok(());
     }
-    noted(Compared::Same, stands(code, at, expected::at_end(size)), at)
+    noted(Ok(()), stands(code, at, expected::at_end(size)), at)
 }
 
 // The same of an epilogue from an offset on, whose codes are those from an index: the first code's instruction stands first.
-pub fn epilogue(t: &[u8; 256], codes: &[u8], index: CodeBytes, code: &[u8], start: u64) -> Compared
+pub fn epilogue(
+    t: &[u8; 256],
+    codes: &[u8],
+    index: CodeBytes,
+    code: &[u8],
+    start: u64,
+) -> Result<(), Differs>
     requires { (t.now ≡ row_numbers) × (start + 4 * length codes.now < 2 ^ 64) }
     ensures { result ≡ P.epilogue_pass code.now start (scan_coded codes.now index).list (scan_coded codes.now index).ending }
 {
@@ -104,7 +106,7 @@ pub fn epilogue(t: &[u8; 256], codes: &[u8], index: CodeBytes, code: &[u8], star
                     at,
                     expected::in_epilogue(returns_at(t, codes, next), c),
                 ) {
-                    return Compared::Differs(at);
+                    return Err(Differs(at));
                 }
                 at += halfword_bytes(n);
                 i = next.0;
@@ -113,9 +115,9 @@ pub fn epilogue(t: &[u8; 256], codes: &[u8], index: CodeBytes, code: &[u8], star
                 return end_at(code, at, size);
             }
             Taken::Bad(_) => {
-                return Compared::Same;
+                return Ok(());
             }
         }
     }
-    Compared::Same
+    Ok(())
 }

@@ -1,5 +1,6 @@
 -- Order 4 by examples: records with C=1 at offsets of their prologues, before the order and now (RULES 4.22).
 -- Assumes nothing.
+use Rattle.std.specs.Prelude.{Ok, Err}
 use Prim.Native.Nat.{ℕ, ◌+◌, ◌^◌}
 use mathlib.Core.Path.{◌≡◌, refl}
 use mathlib.Core.List.{[], ◌∷◌, ◌++◌}
@@ -9,8 +10,7 @@ use Rattle.lent.proofs.Bytes.{bytes_of}
 use Rattle.words.specs.Units.{stack_words, code_bytes}
 use Rattle.words.specs.declared.Place.TheVariants.{Prologue, Body, Epilogue}
 use Rattle.words.specs.declared.Refusal.TheVariants.{BadLayout, InsideInstruction}
-use Rattle.words.specs.declared.Verdict.TheVariants.{Given}
-use Rattle.words.specs.Answer.{Res, ok, refuse}
+use Rattle.words.specs.Answer.{Res}
 use Rattle.unwinding.specs.Todo.{Todo}
 use Rattle.codes.specs.Table.{bits16, bits32}
 use Rattle.codes.specs.declared.Code.{Code}
@@ -49,7 +49,7 @@ plain = 0x00BF0041
 
 plain-codes :
     write_codes plain
-    ≡ ok (record { verdict = Given; bytes = 0x02 ∷ 0xFB ∷ 0xA8 ∷ 0x00 ∷ 0xFF ∷ 0x02 ∷ 0xA8 ∷ 0x00 ∷ 0xFF ∷ replicate 7 0; first = code_bytes 5; second = code_bytes 4 })
+    ≡ Ok (record { bytes = 0x02 ∷ 0xFB ∷ 0xA8 ∷ 0x00 ∷ 0xFF ∷ 0x02 ∷ 0xA8 ∷ 0x00 ∷ 0xFF ∷ replicate 7 0; first = code_bytes 5; second = code_bytes 4 })
 unfolding opened
 plain-codes = refl
 
@@ -57,7 +57,7 @@ plain-0 : (is plain 0 ≡ says Prologue []) × (was plain 0 ≡ says Prologue []
 unfolding opened shape_before first_before
 plain-0 = (refl, refl)
 
-plain-2 : (is plain 2 ≡ refuse InsideInstruction) × (was plain 2 ≡ refuse InsideInstruction)
+plain-2 : (is plain 2 ≡ Err InsideInstruction) × (was plain 2 ≡ Err InsideInstruction)
 unfolding opened shape_before first_before
 plain-2 = (refl, refl)
 
@@ -66,7 +66,7 @@ unfolding opened shape_before first_before
 plain-4 = (refl, refl)
 
 -- behind mov r11,sp: refused before
-plain-6 : (is plain 6 ≡ says Prologue (nop bits16 ∷ pushed ∷ [])) × (was plain 6 ≡ refuse InsideInstruction)
+plain-6 : (is plain 6 ≡ says Prologue (nop bits16 ∷ pushed ∷ [])) × (was plain 6 ≡ Err InsideInstruction)
 unfolding opened shape_before first_before
 plain-6 = (refl, refl)
 
@@ -90,11 +90,11 @@ abbrev stopped : Regs
 stopped = regs 0x20018 0x20010 0x401101 0x401008
 
 -- the entry's SP, r11 and return address now; before, SP 8 less, and two words of the function's own for r11 and the return address
-caller-is : now stack plain 8 stopped ≡ ok (record { regs = regs 0x11 0x20020 0x401101 0x401100; place = Body; handler = 0; codes = 3 })
+caller-is : now stack plain 8 stopped ≡ Ok (record { regs = regs 0x11 0x20020 0x401101 0x401100; place = Body; handler = 0; codes = 3 })
 unfolding opened
 caller-is = refl
 
-caller-was : before stack plain 8 stopped ≡ ok (record { regs = regs 0xA 0x20018 0xB 0xA; place = Prologue; handler = 0; codes = 2 })
+caller-was : before stack plain 8 stopped ≡ Ok (record { regs = regs 0xA 0x20018 0xB 0xA; place = Prologue; handler = 0; codes = 2 })
 unfolding opened shape_before first_before
 caller-was = refl
 
@@ -110,7 +110,7 @@ vectors-2 : (is vectors 2 ≡ says Prologue (homed ∷ [])) × (was vectors 2 �
 unfolding opened shape_before first_before
 vectors-2 = (refl, refl)
 
-vectors-4 : (is vectors 4 ≡ refuse InsideInstruction) × (was vectors 4 ≡ refuse InsideInstruction)
+vectors-4 : (is vectors 4 ≡ Err InsideInstruction) × (was vectors 4 ≡ Err InsideInstruction)
 unfolding opened shape_before first_before
 vectors-4 = (refl, refl)
 
@@ -118,15 +118,15 @@ vectors-6 : (is vectors 6 ≡ says Prologue (pushed ∷ homed ∷ [])) × (was v
 unfolding opened shape_before first_before
 vectors-6 = (refl, refl)
 
-vectors-8 : (is vectors 8 ≡ says Prologue (nop bits16 ∷ pushed ∷ homed ∷ [])) × (was vectors 8 ≡ refuse InsideInstruction)
+vectors-8 : (is vectors 8 ≡ says Prologue (nop bits16 ∷ pushed ∷ homed ∷ [])) × (was vectors 8 ≡ Err InsideInstruction)
 unfolding opened shape_before first_before
 vectors-8 = (refl, refl)
 
-vectors-10 : (is vectors 10 ≡ refuse InsideInstruction) × (was vectors 10 ≡ says Prologue (nop bits32 ∷ pushed ∷ homed ∷ []))
+vectors-10 : (is vectors 10 ≡ Err InsideInstruction) × (was vectors 10 ≡ says Prologue (nop bits32 ∷ pushed ∷ homed ∷ []))
 unfolding opened shape_before first_before
 vectors-10 = (refl, refl)
 
-vectors-12 : (is vectors 12 ≡ says Prologue (vpushed ∷ nop bits16 ∷ pushed ∷ homed ∷ [])) × (was vectors 12 ≡ refuse InsideInstruction)
+vectors-12 : (is vectors 12 ≡ says Prologue (vpushed ∷ nop bits16 ∷ pushed ∷ homed ∷ [])) × (was vectors 12 ≡ Err InsideInstruction)
 unfolding opened shape_before first_before
 vectors-12 = (refl, refl)
 
@@ -140,7 +140,7 @@ folded = 0xFF3F0041
 
 folded-codes :
     write_codes folded
-    ≡ ok (record { verdict = Given; bytes = 0xFC ∷ 0xA8 ∷ 0x08 ∷ 0xFF ∷ 0xA8 ∷ 0x08 ∷ 0xFF ∷ replicate 9 0; first = code_bytes 4; second = code_bytes 3 })
+    ≡ Ok (record { bytes = 0xFC ∷ 0xA8 ∷ 0x08 ∷ 0xFF ∷ 0xA8 ∷ 0x08 ∷ 0xFF ∷ replicate 9 0; first = code_bytes 4; second = code_bytes 3 })
 unfolding opened
 folded-codes = refl
 
@@ -151,7 +151,7 @@ folded-4 : (is folded 4 ≡ says Prologue (pushed3 ∷ [])) × (was folded 4 ≡
 unfolding opened shape_before first_before
 folded-4 = (refl, refl)
 
-folded-6 : (is folded 6 ≡ refuse InsideInstruction) × (was folded 6 ≡ refuse InsideInstruction)
+folded-6 : (is folded 6 ≡ Err InsideInstruction) × (was folded 6 ≡ Err InsideInstruction)
 unfolding opened shape_before first_before
 folded-6 = (refl, refl)
 
@@ -162,15 +162,15 @@ folded-8 = (refl, refl)
 -- ---- r4, r11 and LR: FC too
 others-codes :
     write_codes 0x00300041
-    ≡ ok (record { verdict = Given; bytes = 0xFC ∷ 0xA8 ∷ 0x10 ∷ 0xFF ∷ 0xA8 ∷ 0x10 ∷ 0xFF ∷ replicate 9 0; first = code_bytes 4; second = code_bytes 3 })
+    ≡ Ok (record { bytes = 0xFC ∷ 0xA8 ∷ 0x10 ∷ 0xFF ∷ 0xA8 ∷ 0x10 ∷ 0xFF ∷ replicate 9 0; first = code_bytes 4; second = code_bytes 3 })
 unfolding opened
 others-codes = refl
 
 -- ---- 7: push.w {r11,lr}; mov r11,sp; pop.w {r11,pc} in 10 bytes, which had no room before; in 8 they have none now
-tight : (is 0x003F0015 6 ≡ ok (record { place = Epilogue; codes = pushed ∷ [] })) × (was 0x003F0015 6 ≡ refuse BadLayout)
+tight : (is 0x003F0015 6 ≡ Ok (record { place = Epilogue; codes = pushed ∷ [] })) × (was 0x003F0015 6 ≡ Err BadLayout)
 unfolding opened shape_before first_before
 tight = (refl, refl)
 
-too-tight : is 0x003F0011 6 ≡ refuse BadLayout
+too-tight : is 0x003F0011 6 ≡ Err BadLayout
 unfolding opened
 too-tight = refl

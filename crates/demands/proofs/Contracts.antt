@@ -16,6 +16,7 @@ use prog.Memory.{Memory}
 use prog.Routine.{Routine}
 use denote.Triple.Clauses.{AtExit}
 use Rattle.lent.specs.Lent.{lent}
+use Rattle.words.specs.Answer.{or_else}
 use Rattle.words.specs.Refusals.{verdict_number}
 use Rattle.frame.specs.Frame.{Inputs, inputs}
 use Rattle.walking.specs.Walk.{Trail, walk, walked, filled, walked_all}
@@ -69,7 +70,7 @@ use Rattle.regions.specs.AsCoded.Table.{table_of, listed_in}
 use Rattle.regions.proofs.Tables.{table-listed}
 use Rattle.demands.specs.Regions.{ours_of_regions}
 use Rattle.demands.specs.Fitting.{ours_of_fits}
-use Rattle.exports.specs.Numbers.{found_numbers, found_refusal, fields_in, lengths}
+use Rattle.exports.specs.Numbers.{found_numbers, fields_in, code_list, lengths}
 use Rattle.forward.specs.State.{State}
 use Rattle.forward.specs.Demand.{Asked, Answer, Demand3}
 use Rattle.forward.proofs.Memory.{outside-same}
@@ -271,7 +272,7 @@ c-caller-unique = unique c-caller _ _ c-caller-gives
 abbrev pub c-find : Contract
 c-find = record { lifetimes = 2; params = CFind·kinds.ps; result = CFind·kinds.r; asks = CFind.Asked; free = λ κs a. tt; allows = CFind.Learnt; Left = List ℕ; left = λ κs e. e.1.1.1.0.now }
 
-pub c-find-gives : Gives c-find (λ κs a. found_refusal (ours.find a.0 a.1.0.now a.1.1.0)) (λ κs a. found_numbers (ours.find a.0 a.1.0.now a.1.1.0))
+pub c-find-gives : Gives c-find (λ κs a. verdict_number (ours.find a.0 a.1.0.now a.1.1.0)) (λ κs a. found_numbers (ours.find a.0 a.1.0.now a.1.1.0))
 c-find-gives κs a z e p = p
 
 pub c-find-unique : Unique c-find
@@ -280,7 +281,7 @@ c-find-unique = unique c-find _ _ c-find-gives
 abbrev pub c-size : Contract
 c-size = record { lifetimes = 2; params = CSize·kinds.ps; result = CSize·kinds.r; asks = CSize.Asked; free = λ κs a. tt; allows = CSize.Learnt; Left = ℕ; left = λ κs e. e.1.1.1.0.now }
 
-pub c-size-gives : Gives c-size (λ κs a. verdict_number (ours.size (lent a.0 a.1.0.now) a.1.1.0).verdict) (λ κs a. (ours.size (lent a.0 a.1.0.now) a.1.1.0).bytes)
+pub c-size-gives : Gives c-size (λ κs a. verdict_number (ours.size (lent a.0 a.1.0.now) a.1.1.0)) (λ κs a. or_else (ours.size (lent a.0 a.1.0.now) a.1.1.0) 0)
 c-size-gives κs a z e p = p
 
 pub c-size-unique : Unique c-size
@@ -289,7 +290,7 @@ c-size-unique = unique c-size _ _ c-size-gives
 abbrev pub c-word : Contract
 c-word = record { lifetimes = 2; params = CWord·kinds.ps; result = CWord·kinds.r; asks = CWord.Asked; free = λ κs a. tt; allows = CWord.Learnt; Left = ℕ; left = λ κs e. e.1.0.now }
 
-pub c-word-gives : Gives c-word (λ κs a. verdict_number (ours.word (fields_in a.0.now)).verdict) (λ κs a. (ours.word (fields_in a.0.now)).word)
+pub c-word-gives : Gives c-word (λ κs a. verdict_number (ours.word (fields_in a.0.now))) (λ κs a. or_else (ours.word (fields_in a.0.now)) 0)
 c-word-gives κs a z e p = p
 
 pub c-word-unique : Unique c-word
@@ -298,7 +299,7 @@ c-word-unique = unique c-word _ _ c-word-gives
 abbrev pub c-codes : Contract
 c-codes = record { lifetimes = 2; params = CCodes·kinds.ps; result = CCodes·kinds.r; asks = CCodes.Asked; free = λ κs a. tt; allows = CCodes.Learnt; Left = List ℕ × List ℕ; left = λ κs e. (e.1.0.now, e.1.1.0.now) }
 
-pub c-codes-gives : Gives c-codes (λ κs a. verdict_number (ours.codes a.0).verdict) (λ κs a. ((ours.codes a.0).bytes, lengths (ours.codes a.0)))
+pub c-codes-gives : Gives c-codes (λ κs a. verdict_number (ours.codes a.0)) (λ κs a. (code_list (ours.codes a.0), lengths (ours.codes a.0)))
 c-codes-gives κs a z e p = (p.0, rw (p.1, p.2) refl)
 
 pub c-codes-unique : Unique c-codes

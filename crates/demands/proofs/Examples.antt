@@ -1,6 +1,6 @@
 -- The examples of docs/RULES.md, proved of the definitions by computation: RULES 3.10, 4.20, 5.11, 5.12 and 8.13.
 -- Assumes nothing.
-use Rattle.std.specs.Prelude.{if◌then◌else◌}
+use Rattle.std.specs.Prelude.{if◌then◌else◌, Ok, Err}
 use Prim.Native.Nat.{ℕ, zero, suc, ◌+◌, ◌-◌, ◌*◌, ◌%◌, ◌^◌, ◌≤◌, ◌<◌}
 use mathlib.Core.Path.{◌≡◌, refl, sym, ap, ◌∙◌}
 use mathlib.Core.List.{List, [], ◌∷◌, ◌++◌}
@@ -13,8 +13,7 @@ use Rattle.lent.specs.Lent.{Lent, end, word_at}
 use Rattle.words.specs.Units.{halfwords, stack_words, code_bytes, stack_bytes}
 use Rattle.words.specs.declared.Place.TheVariants.{Leaf, Prologue, Body, Epilogue}
 use Rattle.words.specs.declared.Refusal.TheVariants.{InsideInstruction, BadStack}
-use Rattle.words.specs.declared.Verdict.TheVariants.{Given, Refused}
-use Rattle.words.specs.Answer.{Res, ok, refuse, ◌>>=◌}
+use Rattle.words.specs.Answer.{Res, ◌>>=◌}
 use Rattle.unwinding.specs.CodeList.{run}
 use Rattle.unwinding.specs.Shape.{Shape}
 use Rattle.unwinding.specs.Todo.{todo}
@@ -55,7 +54,7 @@ packed = packed_shape 0x00910041
 
 packed-codes :
     write_codes 0x00910041
-    ≡ ok (record { verdict = Given; bytes = 0x02 ∷ 0xD5 ∷ 0xFF ∷ 0x02 ∷ 0xD5 ∷ 0xFF ∷ replicate 10 0; first = code_bytes 3; second = code_bytes 3 })
+    ≡ Ok (record { bytes = 0x02 ∷ 0xD5 ∷ 0xFF ∷ 0x02 ∷ 0xD5 ∷ 0xFF ∷ replicate 10 0; first = code_bytes 3; second = code_bytes 3 })
 unfolding opened
 packed-codes = refl
 
@@ -96,7 +95,7 @@ c_dd = record { undo = Pop (0x3F0 + 2 ^ 14); size = halfwords 2 }
 abbrev c04 : Code
 c04 = record { undo = Up (stack_words 4); size = halfwords 1 }
 
-full_size : xdata_size xdata 0x3000 ≡ ok 8
+full_size : xdata_size xdata 0x3000 ≡ Ok 8
 unfolding opened
 full_size = refl
 
@@ -105,7 +104,7 @@ full-2 : at full 2 ≡ says Prologue (c04 ∷ [])
 unfolding opened
 full-2 = refl
 
-full-4 : at full 4 ≡ refuse InsideInstruction
+full-4 : at full 4 ≡ Err InsideInstruction
 unfolding opened
 full-4 = refl
 
@@ -159,7 +158,7 @@ file =
     ++ pdata
     ++ stack
 
-listing-report : report file ≡ ok (record { inputs = inputs; regs = given })
+listing-report : report file ≡ Ok (record { inputs = inputs; regs = given })
 unfolding opened
 listing-report = refl
 
@@ -170,14 +169,14 @@ unfolding opened
 listing-printed = refl
 
 -- the packed word at offset 0x20, which it does not cover (RULES 5.11): the caller of a leaf
-packed-20 : frame inputs (regs 0x00401020 0x20008) ≡ ok (record { regs = regs 0 0x20008; place = Leaf; handler = 0; codes = 0 })
+packed-20 : frame inputs (regs 0x00401020 0x20008) ≡ Ok (record { regs = regs 0 0x20008; place = Leaf; handler = 0; codes = 0 })
 unfolding opened
 packed-20 = refl
 
 -- offset 2 with all its registers: r4, r5 and LR loaded
 pub packed-2-frame :
     frame inputs given
-    ≡ ok
+    ≡ Ok
     (record { regs = record { r = 0 ∷ 0 ∷ 0 ∷ 0 ∷ 0x44 ∷ 0x55 ∷ replicate 7 0; sp = 0x20014; lr = 0x00402011; pc = 0x00402010; d = replicate 32 0 }; place = Prologue; handler = 0; codes = 1 })
 unfolding opened
 packed-2-frame = refl
@@ -194,7 +193,7 @@ full_inputs = full_on (record { base = 0x20000; bytes = bytes_of (1 ∷ 4 ∷ 5 
 
 full-8-frame :
     frame full_inputs sevens
-    ≡ ok
+    ≡ Ok
     (record { regs = record { r = 0 ∷ 0 ∷ 0 ∷ 0 ∷ 4 ∷ 5 ∷ 6 ∷ 7 ∷ 8 ∷ 9 ∷ 0 ∷ 0 ∷ 0 ∷ []; sp = 0x20004 + 44; lr = 0x401235; pc = 0x401234; d = replicate 32 0 }; place = Body; handler = 0; codes = 3 })
 unfolding opened
 full-8-frame = refl
@@ -214,7 +213,7 @@ pub record Sevens (k : Lent) (g : Regs) : Type 0 where
 -- it answers, and SP moves up by n
 record Moves (act : Regs → Res Regs) (g : Regs) (n : ℕ) : Type 0 where
   next : Regs
-  runs : act g ≡ ok next
+  runs : act g ≡ Ok next
   sp : next.sp ≡ g.sp + n
 
 module _ (k : Lent) (fit : fit_stack k ≡ true) where
@@ -228,7 +227,7 @@ module _ (k : Lent) (fit : fit_stack k ≡ true) where
   count l zero = 0
   count l (suc n) = count l n + (if bit n l then 1 else 0)
 
-  moves-one : (t : Bool) (x : ℕ) (g : Regs) → k.base ≤ g.sp → g.sp + 4 * (if t then 1 else 0) ≤ end k → Moves (λ h. if t then pop_reg k x h else ok h) g (4 * (if t then 1 else 0))
+  moves-one : (t : Bool) (x : ℕ) (g : Regs) → k.base ≤ g.sp → g.sp + 4 * (if t then 1 else 0) ≤ end k → Moves (λ h. if t then pop_reg k x h else Ok h) g (4 * (if t then 1 else 0))
   unfolding load pop_reg
   moves-one true x g b h =
       record { next = set_sp (set_reg g x (word_at k g.sp)) (g.sp + 4); runs = rw (le-leb k.base g.sp b, le-leb (g.sp + 4) (end k) h) refl; sp = refl }
@@ -242,12 +241,12 @@ module _ (k : Lent) (fit : fit_stack k ≡ true) where
       let j = moves-one (bit n l) n i.next (omega (arith, i.sp)) (omega (arith, i.sp)) in
       record {
         next = j.next;
-        runs = ap (λ x. x >>= λ h. if bit n l then pop_reg k n h else ok h) i.runs ∙ j.runs;
+        runs = ap (λ x. x >>= λ h. if bit n l then pop_reg k n h else Ok h) i.runs ∙ j.runs;
         sp = omega (arith, i.sp, j.sp);
       }
 
   -- C7 DD 04
-  moves-all : (g : Regs) → reg g 7 % 4 ≡ 0 → k.base ≤ reg g 7 → reg g 7 + 44 ≤ end k → (h : Regs) × (run (step k) (c_c7 ∷ c_dd ∷ c04 ∷ []) g ≡ ok h) × (h.sp ≡ reg g 7 + 44)
+  moves-all : (g : Regs) → reg g 7 % 4 ≡ 0 → k.base ≤ reg g 7 → reg g 7 + 44 ≤ end k → (h : Regs) × (run (step k) (c_c7 ∷ c_dd ∷ c04 ∷ []) g ≡ Ok h) × (h.sp ≡ reg g 7 + 44)
   unfolding run step count
   moves-all g al low high =
       let a : ℕ = reg g 7 in
@@ -271,7 +270,7 @@ full-8-here = known framed 8 refl (omega arith)
 abbrev pub AllThree : Regs → Caller → Type 0
 AllThree g c = (c.place ≡ Body) × (c.codes ≡ 3) × (c.regs.sp ≡ reg g 7 + 44)
 
-full-8-within : (k : Lent) (g : Regs) → Sevens k g → (c : Caller) × (within k (shape framed) 8 g ≡ ok c) × AllThree g c
+full-8-within : (k : Lent) (g : Regs) → Sevens k g → (c : Caller) × (within k (shape framed) 8 g ≡ Ok c) × AllThree g c
 unfolding within
 full-8-within k g s =
     let m = moves-all k s.fit g s.aligned s.low s.high in
@@ -281,7 +280,7 @@ full-8-within k g s =
       (refl, refl, m.2),
     )
 
-pub full-8-law : (k : Lent) (g : Regs) → Sevens k g → (c : Caller) × (frame (full_on k) g ≡ ok c) × AllThree g c
+pub full-8-law : (k : Lent) (g : Regs) → Sevens k g → (c : Caller) × (frame (full_on k) g ≡ Ok c) × AllThree g c
 full-8-law k g s =
     let w = full-8-within k g s in
     let at = full-8-here in (
@@ -302,11 +301,11 @@ short n =
 
 last_word :
     frame (short 3) given
-    ≡ ok (record { regs = record { r = 0 ∷ 0 ∷ 0 ∷ 0 ∷ 7 ∷ 7 ∷ replicate 7 0; sp = 0x20014; lr = 7; pc = 6; d = replicate 32 0 }; place = Prologue; handler = 0; codes = 1 })
+    ≡ Ok (record { regs = record { r = 0 ∷ 0 ∷ 0 ∷ 0 ∷ 7 ∷ 7 ∷ replicate 7 0; sp = 0x20014; lr = 7; pc = 6; d = replicate 32 0 }; place = Prologue; handler = 0; codes = 1 })
 unfolding opened
 last_word = refl
 
 one_more :
-    unwound given (frame (short 2) given) ≡ record { verdict = Refused BadStack; regs = given; place = Leaf; handler = 0; codes = 0 }
+    unwound given (frame (short 2) given) ≡ record { regs = given; told = Err BadStack }
 unfolding opened
 one_more = refl

@@ -1,12 +1,11 @@
 -- Finding meets its laws, since in an ascending table the last record that starts at or before the pc has the greatest such start; and a
 -- reader that looks at the first record only breaks them.
 -- Assumes nothing.
-use Rattle.std.specs.Prelude.{if◌then◌else◌}
+use Rattle.std.specs.Prelude.{if◌then◌else◌, Ok, Err, Option, None, Some}
 use Prim.Native.Nat.{ℕ, zero, suc, ◌+◌, ◌-◌, ◌/◌, ◌%◌, ◌≤◌, ◌<◌}
 use mathlib.Core.Path.{◌≡◌, refl, ap, subst}
 use mathlib.Core.List.{List, map}
 use mathlib.Core.Bool.{Bool, true, false}
-use mathlib.Core.Option.{Option, none, some}
 use lib.ListN.{length}
 use lib.Dec.{leb, ltb, eqb}
 use native.Mathlib.Omega.{arith}
@@ -15,12 +14,10 @@ use Rattle.words.specs.Bits.{even}
 use Rattle.words.specs.declared.Refusal.{Refusal}
 use Rattle.words.specs.declared.Refusal.TheVariants.{UnfitInput, PcBelowBase, StartsNotAscending}
 use Rattle.words.proofs.Tests.{both}
-use Rattle.words.specs.Answer.{Res, ok, ◌>>◌, need, maybe}
+use Rattle.words.specs.Answer.{Res, ◌>>◌, need, maybe}
 use Rattle.unwinding.specs.View.{ascending}
-use Rattle.pdata.specs.Pdata.{entries_from, entries, entry_at, starts, last_up_to, find, found, find_rva}
+use Rattle.pdata.specs.Pdata.{entries_from, entries, entry_at, starts, last_up_to, find, find_rva}
 use Rattle.pdata.specs.declared.Entry.{Entry}
-use Rattle.pdata.specs.declared.Found.{Found}
-use Rattle.pdata.specs.declared.Found.TheVariants.{Record, Nothing, Refused}
 use Rattle.pdata.proofs.Finding.{start_at}
 use Rattle.listing.proofs.Opened.{opened}
 use Rattle.demands.specs.Reader.{ours}
@@ -62,15 +59,15 @@ record Best (s : List ℕ) (a i n : ℕ) (e : Entry) : Type 0 where
   between : (j : ℕ) → i ≤ j → j < i + n → start_at s j ≤ a → start_at s j ≤ e.start
 
 abbrev Seen : List ℕ → (a i n : ℕ) → Option Entry → Type 0
-Seen s a i n none = (j : ℕ) → i ≤ j → j < i + n → a < start_at s j
-Seen s a i n (some e) = Best s a i n e
+Seen s a i n None = (j : ℕ) → i ≤ j → j < i + n → a < start_at s j
+Seen s a i n (Some e) = Best s a i n e
 
 seen : (s : List ℕ) (a n i : ℕ) → Ascends s i n → Seen s a i n (last_up_to (entries_from s i n) a)
 unfolding entries_from last_up_to
 seen s a zero i up = λ j lo hi. absurd (omega (arith, lo, hi))
 seen s a (suc n) i up = more (last_up_to (entries_from s (i + 1) n) a) (seen s a n (i + 1) (ascends-on s i n up))
   where
-    here : (t : Bool) → leb (start_at s i) a ≡ t → Seen s a (i + 1) n none → Seen s a i (suc n) (if t then some (entry_at s i) else none)
+    here : (t : Bool) → leb (start_at s i) a ≡ t → Seen s a (i + 1) n None → Seen s a i (suc n) (if t then Some (entry_at s i) else None)
     here true q none_after = record {
       low = omega arith;
       high = omega arith;
@@ -81,9 +78,9 @@ seen s a (suc n) i up = more (last_up_to (entries_from s (i + 1) n) a) (seen s a
     }
     here false q none_after = from (λ j. a < start_at s j) i n (leb-false (start_at s i) a q) none_after
 
-    more : (o : Option Entry) → Seen s a (i + 1) n o → Seen s a i (suc n) (maybe o (if leb (start_at s i) a then some (entry_at s i) else none) some)
-    more none h = here (leb (start_at s i) a) refl h
-    more (some e) b =
+    more : (o : Option Entry) → Seen s a (i + 1) n o → Seen s a i (suc n) (maybe o (if leb (start_at s i) a then Some (entry_at s i) else None) Some)
+    more None h = here (leb (start_at s i) a) refl h
+    more (Some e) b =
         let f : start_at s i ≤ start_at s e.number = least s n i up e.number (omega (arith, b.low)) (omega (arith, b.high)) in
         let g : e.start ≡ start_at s e.number = ap (λ (x : Entry). x.start) b.same in
         record {
@@ -96,25 +93,25 @@ seen s a (suc n) i up = more (last_up_to (entries_from s (i + 1) n) a) (seen s a
 
 -- what the laws ask of an answer
 module _ (image : ℕ) (s : List ℕ) (pc : ℕ) where
-  abbrev Lawful : Found → Type 0
-  Lawful (Record e) = Greatest image s pc e
-  Lawful Nothing = (i : ℕ) → i < length s / 8 → even pc < image + (entry_at s i).start
-  Lawful (Refused r) = Unit {0}
+  abbrev Lawful : Res (Option Entry) → Type 0
+  Lawful (Ok (Some e)) = Greatest image s pc e
+  Lawful (Ok None) = (i : ℕ) → i < length s / 8 → even pc < image + (entry_at s i).start
+  Lawful (Err r) = Unit {0}
 
-  after : (t : Bool) (r : Refusal) (x : Res (Option Entry)) → (t ≡ true → Lawful (found x)) → Lawful (found (need t r >> x))
+  after : (t : Bool) (r : Refusal) (x : Res (Option Entry)) → (t ≡ true → Lawful x) → Lawful (need t r >> x)
   after true r x h = h refl
   after false r x h = tt
 
-  answered : image ≤ even pc → (o : Option Entry) → Seen s (even pc - image) 0 (length s / 8) o → Lawful (found (ok o))
-  answered h none f = λ i lo. omega (arith, h, f i (omega arith) (omega (arith, lo)))
-  answered h (some e) b = record {
+  answered : image ≤ even pc → (o : Option Entry) → Seen s (even pc - image) 0 (length s / 8) o → Lawful (Ok o)
+  answered h None f = λ i lo. omega (arith, h, f i (omega arith) (omega (arith, lo)))
+  answered h (Some e) b = record {
     inside = omega (arith, b.high);
     same = b.same;
     below = omega (arith, h, b.below);
     between = λ i lo q. b.between i (omega arith) (omega (arith, lo)) (omega (arith, h, q));
   }
 
-  lawful : Lawful (found (find image s pc))
+  lawful : Lawful (find image s pc)
   unfolding find find_rva
   lawful =
       after (eqb (length s % 8) 0) UnfitInput _
@@ -127,7 +124,7 @@ pub find-laws : FindLaws ours
 find-laws = record { found = λ image s pc e q. subst (Lawful image s pc) q (lawful image s pc); nothing = λ image s pc q. subst (Lawful image s pc) q (lawful image s pc) }
 
 -- the second of the listing example's records covers this pc
-first-answered : first-only.find 0x00400000 (Example.inputs).pdata 0x00402010 ≡ Record (entry_at (Example.inputs).pdata 0)
+first-answered : first-only.find 0x00400000 (Example.inputs).pdata 0x00402010 ≡ Ok (Some (entry_at (Example.inputs).pdata 0))
 unfolding opened
 first-answered = refl
 

@@ -1,6 +1,6 @@
 -- Order 3, of our checker.
 -- Assumes nothing.
-use Rattle.std.specs.Prelude.{if◌then◌else◌}
+use Rattle.std.specs.Prelude.{if◌then◌else◌, Ok, Err}
 use Prim.Native.Nat.{ℕ, ◌≤◌}
 use mathlib.Core.Path.{◌≡◌, refl, sym, ap, ◌∙◌}
 use mathlib.Core.Logic.{inl, inr}
@@ -10,7 +10,7 @@ use native.Mathlib.Omega.{arith}
 use Rattle.words.specs.Refusals.{number}
 use Rattle.words.specs.declared.Refusal.{Refusal}
 use Rattle.words.specs.declared.Refusal.TheVariants.{UnfitInput}
-use Rattle.words.specs.Answer.{Res, ok, refuse, either}
+use Rattle.words.specs.Answer.{Res, either}
 use Rattle.lent.specs.Lent.{Lent}
 use Rattle.unwinding.specs.Extent.{of_extent}
 use Rattle.unwinding.specs.Shape.{Shape}
@@ -24,7 +24,6 @@ use Rattle.fitting.specs.Fitting.{fit_number, shape_fitted, fitted}
 use Rattle.fitting.specs.Exactly.{Unread}
 use Rattle.fitting.specs.declared.FitRefusal.{FitRefusal}
 use Rattle.fitting.specs.declared.FitRefusal.TheVariants.{Record, Short, Differs}
-use Rattle.fitting.specs.declared.Fitted.TheVariants.{Refused}
 use Rattle.fitting.proofs.Exact.{exactly}
 use Rattle.fitting.proofs.Behind.{fit-behind}
 use Rattle.executing.specs.Claims.{FitDemand3}
@@ -48,18 +47,18 @@ unread-number : (x : Lent) (w : ℕ) (r : Refusal) → Unread x w r → FitNumbe
 unread-number x w r (inl h) = inl (ap number h.1)
 unread-number x w r (inr h) = inr (inl (early x w r h.1))
 
-fit-number : (x : Lent) (w : ℕ) (s : List ℕ) (r : FitRefusal) → fitted x w s ≡ Refused r → FitNumber (fit_number r)
+fit-number : (x : Lent) (w : ℕ) (s : List ℕ) (r : FitRefusal) → fitted x w s ≡ Err r → FitNumber (fit_number r)
 fit-number x w s (Record r) e = unread-number x w r (((exactly x w s).unread r).0 e)
 fit-number x w s Short e = inr (inr (inr refl))
 fit-number x w s (Differs o) e = inr (inr (inl refl))
 
 -- ---- with more .xdata
 module _ (x x' : Lent) (w : ℕ) (s : List ℕ) (m : More x x') (f : fit_xdata x' ≡ true) where
-  stays-read : (y y' : Res Shape) → Stays y y' → lasts (either y (λ r. Refused (Record r)) (shape_fitted s)) ≡ true → either y' (λ r. Refused (Record r)) (shape_fitted s) ≡ either y (λ r. Refused (Record r)) (shape_fitted s)
-  stays-read (ok sh) y' h l = rw (h refl) refl
-  stays-read (refuse r) y' h l = go (of_extent (number r)) refl l
+  stays-read : (y y' : Res Shape) → Stays y y' → lasts (either y (λ r. Err (Record r)) (shape_fitted s)) ≡ true → either y' (λ r. Err (Record r)) (shape_fitted s) ≡ either y (λ r. Err (Record r)) (shape_fitted s)
+  stays-read (Ok sh) y' h l = rw (h refl) refl
+  stays-read (Err r) y' h l = go (of_extent (number r)) refl l
     where
-      go : (t : Bool) → of_extent (number r) ≡ t → not t ≡ true → either y' (λ r. Refused (Record r)) (shape_fitted s) ≡ Refused (Record r)
+      go : (t : Bool) → of_extent (number r) ≡ t → not t ≡ true → either y' (λ r. Err (Record r)) (shape_fitted s) ≡ Err (Record r)
       go true e k = absurd (true≢false (sym k))
       go false e k = rw (h e) refl
 
@@ -68,9 +67,9 @@ module _ (x x' : Lent) (w : ℕ) (s : List ℕ) (m : More x x') (f : fit_xdata x
   stays-xdata l = go (fit_xdata x) l
     where
       go :
-          (t : Bool) → lasts (if t then either (shape_at x w) (λ r. Refused (Record r)) (shape_fitted s) else Refused (Record UnfitInput)) ≡ true
-          → (if fit_xdata x' then either (shape_at x' w) (λ r. Refused (Record r)) (shape_fitted s) else Refused (Record UnfitInput))
-          ≡ (if t then either (shape_at x w) (λ r. Refused (Record r)) (shape_fitted s) else Refused (Record UnfitInput))
+          (t : Bool) → lasts (if t then either (shape_at x w) (λ r. Err (Record r)) (shape_fitted s) else Err (Record UnfitInput)) ≡ true
+          → (if fit_xdata x' then either (shape_at x' w) (λ r. Err (Record r)) (shape_fitted s) else Err (Record UnfitInput))
+          ≡ (if t then either (shape_at x w) (λ r. Err (Record r)) (shape_fitted s) else Err (Record UnfitInput))
       go true k = rw f (stays-read (shape_at x w) (shape_at x' w) (stays_at x x' m w) k)
       go false k = absurd (true≢false (sym k))
 

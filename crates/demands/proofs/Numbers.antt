@@ -1,14 +1,13 @@
 -- Which refusal numbers an operation can give: finding 1 to 3; a size 1, 4 and 5; the packed writers 4; one frame 1 to 11; 12 and 13 only a
 -- walk's later frames. And that no two refusals share a number.
 -- Assumes nothing.
-use Rattle.std.specs.Prelude.{if◌then◌else◌}
+use Rattle.std.specs.Prelude.{if◌then◌else◌, Ok, Err, Option, None, Some}
 use Prim.Native.Nat.{ℕ, zero, suc, ◌+◌, ◌-◌, ◌%◌, ◌≤◌}
 use mathlib.Core.Path.{◌≡◌, refl, sym, ap, ◌∙◌, subst}
 use mathlib.Core.Logic.{◌⊎◌, inl, inr}
 use mathlib.Core.List.{List, [], ◌∷◌}
 use mathlib.Core.Bool.{Bool, true, false, ◌&&◌, ◌||◌, not}
-use mathlib.Core.Option.{Option, none, some}
-use lib.ListN.{length, replicate, get_or}
+use lib.ListN.{length, get_or}
 use lib.Dec.{leb, ltb, eqb}
 use native.Mathlib.Omega.{arith}
 use borrow.Author.Tests.{ne_eqb}
@@ -19,9 +18,8 @@ use Rattle.words.specs.Refusals.{number}
 use Rattle.words.specs.declared.CodeBytes.{CodeBytes}
 use Rattle.words.specs.declared.Place.{Place}
 use Rattle.words.specs.declared.Refusal.{Refusal}
-use Rattle.words.specs.declared.Verdict.TheVariants as Verdict
 use Rattle.words.specs.declared.Refusal.TheVariants.{UnfitInput, PcBelowBase, StartsNotAscending, Reserved, OutsideXdata, BadCodes, BadLayout, BadStack, InsideInstruction, Conditional, SpFell, NoRecord, SpSame, UnfitReport}
-use Rattle.words.specs.Answer.{Res, ok, refuse, ◌>>=◌, ◌>>◌, need, maybe}
+use Rattle.words.specs.Answer.{Res, ◌>>=◌, ◌>>◌, need, maybe}
 use Rattle.unwinding.specs.CodeList.{total, end_of, run}
 use Rattle.unwinding.specs.Shape.{Shape}
 use Rattle.unwinding.specs.View.{EpilogueOf, View, ascending, fits, epilogues, view}
@@ -38,14 +36,11 @@ use Rattle.codes.specs.declared.Undo.TheVariants.{Up, Pop, SpFrom, Vpop, LoadLr,
 use Rattle.machine.specs.declared.Regs.{Regs}
 use Rattle.machine.specs.Step.{stands, load, pop_reg, pop_d, pop, vpop, effect, step}
 use Rattle.pdata.specs.declared.Entry.{Entry}
-use Rattle.pdata.specs.declared.Found.TheVariants as Found
 use Rattle.packed.specs.declared.Packed.{Packed}
-use Rattle.packed.specs.declared.WordOf.{WordOf}
-use Rattle.packed_codes.specs.declared.CodesOf.{CodesOf}
-use Rattle.pdata.specs.Pdata.{find, found, find_rva, starts}
-use Rattle.packed.specs.Packed.{fields, word_of, fields_fit, allowed, write_word, word_answer}
-use Rattle.packed_codes.specs.PackedCodes.{written, write_codes, codes_answer}
-use Rattle.xdata.specs.Xdata.{fit_xdata, record_bytes, scope_count, short_head, long_head, head_at, xdata_size, size_answer}
+use Rattle.pdata.specs.Pdata.{find, find_rva, starts}
+use Rattle.packed.specs.Packed.{fields, fields_fit, allowed, write_word}
+use Rattle.packed_codes.specs.PackedCodes.{write_codes}
+use Rattle.xdata.specs.Xdata.{fit_xdata, record_bytes, scope_count, short_head, long_head, head_at, xdata_size}
 use Rattle.xdata.specs.Scopes.{scopes_at}
 use Rattle.record.specs.Record.{full_shape, packed_shape, shape_at, shape_of}
 use Rattle.frame.specs.Frame.{Inputs, fit_stack, uncovered, within, by_record, frame_of}
@@ -75,18 +70,18 @@ numbered UnfitReport = omega arith
 
 -- the number of a refusal of this answer is one of those
 abbrev pub Only : {A : Type 0} → (ℕ → Type 0) → Res A → Type 0
-Only P x = (r : Refusal) → x ≡ refuse r → P (number r)
+Only P x = (r : Refusal) → x ≡ Err r → P (number r)
 
 module _ (P : ℕ → Type 0) where
-  given : {A : Type 0} (a : A) → Only P (ok a)
+  given : {A : Type 0} (a : A) → Only P (Ok a)
   given a r e = absurd (let z : ◌≡◌ {A = ℕ} 0 1 = cc in omega arith)
 
-  refused : {A : Type 0} (q : Refusal) → P (number q) → Only {A = A} P (refuse q)
+  refused : {A : Type 0} (q : Refusal) → P (number q) → Only {A = A} P (Err q)
   refused q h r e = let z : q ≡ r = cc in subst (λ x. P (number x)) z h
 
   pub bound : {A B : Type 0} (x : Res A) (f : A → Res B) → Only P x → ((a : A) → Only P (f a)) → Only P (x >>= f)
-  bound (ok a) f h k = k a
-  bound (refuse q) f h k = refused q (h q refl)
+  bound (Ok a) f h k = k a
+  bound (Err q) f h k = refused q (h q refl)
 
   needed : {B : Type 0} (t : Bool) (q : Refusal) (y : Res B) → P (number q) → Only P y → Only P (need t q >> y)
   needed true q y h k = k
@@ -113,8 +108,8 @@ module _ (P : ℕ → Type 0) where
   only-head p4 p5 x a =
       needed (holds x a 4) OutsideXdata _ p5
       (needed (eqb (bits 18 2 (word_at x a)) 0) Reserved _ p4
-      (bound (if eqb (bits 23 9 (word_at x a)) 0 then long_head x a (word_at x a) else ok (short_head (word_at x a))) _
-      (either_way (eqb (bits 23 9 (word_at x a)) 0) (long_head x a (word_at x a)) (ok (short_head (word_at x a))) (only-long p4 p5 x a (word_at x a)) (given (short_head (word_at x a))))
+      (bound (if eqb (bits 23 9 (word_at x a)) 0 then long_head x a (word_at x a) else Ok (short_head (word_at x a))) _
+      (either_way (eqb (bits 23 9 (word_at x a)) 0) (long_head x a (word_at x a)) (Ok (short_head (word_at x a))) (only-long p4 p5 x a (word_at x a)) (given (short_head (word_at x a))))
       (λ h. needed (holds x a (record_bytes h)) OutsideXdata _ p5 (given h))))
 
   pub only-size : P 1 → P 4 → P 5 → (x : Lent) (a : ℕ) → Only P (xdata_size x a)
@@ -160,9 +155,9 @@ module _ (P : ℕ → Type 0) (all : (k : ℕ) → k ≤ 11 → P k) where
   unfolding left
   up_left p after o cs = go (end_of size after o cs)
     where
-      go : (l : Option (List Code)) → Only {A = Todo Code} P (maybe l (refuse InsideInstruction) (λ l. ok (record { place = p; codes = l })))
-      go none = refused P InsideInstruction (all 9 (omega arith))
-      go (some l) = given P _
+      go : (l : Option (List Code)) → Only {A = Todo Code} P (maybe l (Err InsideInstruction) (λ l. Ok (record { place = p; codes = l })))
+      go None = refused P InsideInstruction (all 9 (omega arith))
+      go (Some l) = given P _
 
   up-epilogue : (e : EpilogueOf Code) (o : ℕ) → Only P (in_epilogue size executing e o)
   unfolding in_epilogue
@@ -184,7 +179,7 @@ module _ (P : ℕ → Type 0) (all : (k : ℕ) → k ≤ 11 → P k) where
   up-pop : (k : Lent) (l m : ℕ) (g : Regs) → Only P (pop k l m g)
   unfolding pop pop_reg
   up-pop k l zero g = given P g
-  up-pop k l (suc m) g = bound P (pop k l m g) _ (up-pop k l m g) (λ h. either_way P (bit m l) (pop_reg k m h) (ok h) (bound P (load k h.sp) _ (up-load k h.sp) (λ w. given P _)) (given P h))
+  up-pop k l (suc m) g = bound P (pop k l m g) _ (up-pop k l m g) (λ h. either_way P (bit m l) (pop_reg k m h) (Ok h) (bound P (load k h.sp) _ (up-load k h.sp) (λ w. given P _)) (given P h))
 
   up-vpop : (k : Lent) (x m : ℕ) (g : Regs) → Only P (vpop k x m g)
   unfolding vpop pop_d
@@ -218,8 +213,8 @@ module _ (P : ℕ → Type 0) (all : (k : ℕ) → k ≤ 11 → P k) where
       (bound P (find t.image t.pdata g.pc) _ (only-find P (all 1 (omega arith)) (all 2 (omega arith)) (all 3 (omega arith)) t.image t.pdata g.pc) (λ e. needed P (stands t.stack g.sp) BadStack _ (all 8 (omega arith)) (go e)))
     where
       go : (e : Option Entry) → Only P (maybe e (uncovered first g) (λ e. by_record first t e g))
-      go none = none-covers g
-      go (some e) = bound P (shape_of t.xdata e) _ (only-shape P (all 4 (omega arith)) (all 5 (omega arith)) t.xdata e.word) (λ s. either_way P (ltb (even g.pc - t.image - e.start) s.span) _ _ (up-within t.stack s (even g.pc - t.image - e.start) g) (none-covers g))
+      go None = none-covers g
+      go (Some e) = bound P (shape_of t.xdata e) _ (only-shape P (all 4 (omega arith)) (all 5 (omega arith)) t.xdata e.word) (λ s. either_way P (ltb (even g.pc - t.image - e.start) s.span) _ _ (up-within t.stack s (even g.pc - t.image - e.start) g) (none-covers g))
 
 abbrev pub UpTo : {A : Type 0} → ℕ → Res A → Type 0
 UpTo n x = Only (λ k. k ≤ n) x
@@ -237,45 +232,19 @@ up_next first t g =
     bound (λ k. k ≤ 13) (frame_of first t g) _ (up-any first t g)
     (λ c. needed (λ k. k ≤ 13) (first || not (eqb c.regs.sp g.sp)) SpSame _ (omega arith) (given (λ k. k ≤ 13) c))
 
--- ---- the operations on the tables: their numbers, and the zeros that stand for an answer
-not_found : (x : Res (Option Entry)) (r : Refusal) → found x ≡ Found.Refused r → x ≡ refuse r
-not_found (ok none) r e = absurd (let z : ◌≡◌ {A = ℕ} 0 1 = cc in omega arith)
-not_found (ok (some n)) r e = absurd (let z : ◌≡◌ {A = ℕ} 0 1 = cc in omega arith)
-not_found (refuse q) r e = ap refuse (let z : q ≡ r = cc in z)
+-- ---- the numbers of the operations on the tables
+pub found_number : (image : ℕ) (pdata : List ℕ) (pc : ℕ) (r : Refusal) → find image pdata pc ≡ Err r → (1 ≤ number r) × (number r ≤ 3)
+found_number i s pc r e = (numbered r, only-find (λ k. k ≤ 3) (omega arith) (omega arith) (omega arith) i s pc r e)
 
-pub found_number : (image : ℕ) (pdata : List ℕ) (pc : ℕ) (r : Refusal) → found (find image pdata pc) ≡ Found.Refused r → (1 ≤ number r) × (number r ≤ 3)
-found_number i s pc r e = (numbered r, only-find (λ k. k ≤ 3) (omega arith) (omega arith) (omega arith) i s pc r (not_found (find i s pc) r e))
+pub size_number : (x : Lent) (at : ℕ) (r : Refusal) → xdata_size x at ≡ Err r → (number r ≡ 1) ⊎ (number r ≡ 4) ⊎ (number r ≡ 5)
+size_number x at r e = only-size (λ k. (k ≡ 1) ⊎ (k ≡ 4) ⊎ (k ≡ 5)) (inl refl) (inr (inl refl)) (inr (inr refl)) x at r e
 
-not-sized : (x : Res ℕ) (r : Refusal) → (size_answer x).verdict ≡ Verdict.Refused r → x ≡ refuse r
-not-sized (ok n) r e = absurd (let z : ◌≡◌ {A = ℕ} 0 1 = cc in omega arith)
-not-sized (refuse q) r e = ap refuse (let z : q ≡ r = cc in z)
-
-pub size_number : (x : Lent) (at : ℕ) (r : Refusal) → (size_answer (xdata_size x at)).verdict ≡ Verdict.Refused r → ((number r ≡ 1) ⊎ (number r ≡ 4) ⊎ (number r ≡ 5)) × ((size_answer (xdata_size x at)).bytes ≡ 0)
-size_number x at r e =
-    let q = not-sized (xdata_size x at) r e in
-    (only-size (λ k. (k ≡ 1) ⊎ (k ≡ 4) ⊎ (k ≡ 5)) (inl refl) (inr (inl refl)) (inr (inr refl)) x at r q, rw q refl)
-
-abbrev NoWord : Refusal → WordOf → Type 0
-NoWord r a = a.verdict ≡ Verdict.Refused r → (number r ≡ 4) × (a.word ≡ 0)
-
-pub word_number : (p : Packed) (r : Refusal) → NoWord r (word_answer (write_word p))
+pub word_number : (p : Packed) (r : Refusal) → write_word p ≡ Err r → number r ≡ 4
 unfolding write_word
-word_number p r = go (fields_fit p && allowed p)
-  where
-    go : (t : Bool) → NoWord r (word_answer (need t Reserved >> ok (word_of p)))
-    go true e = absurd (let z : ◌≡◌ {A = ℕ} 0 1 = cc in omega arith)
-    go false e = let z : r ≡ Reserved = cc in (ap number z, refl)
+word_number p = needed (λ k. k ≡ 4) (fields_fit p && allowed p) Reserved _ refl (given (λ k. k ≡ 4) _)
 
-abbrev NoCodes : Refusal → CodesOf → Type 0
-NoCodes r a = a.verdict ≡ Verdict.Refused r → (number r ≡ 4) × (a.bytes ≡ replicate 16 0) × (a.first.0 ≡ 0) × (a.second.0 ≡ 0)
-
-pub codes-number : (w : ℕ) (r : Refusal) → NoCodes r (codes_answer (write_codes w))
-unfolding write_codes
-codes-number w r = go (allowed (fields w))
-  where
-    go : (t : Bool) → NoCodes r (codes_answer (need t Reserved >> ok (written (fields w))))
-    go true e = absurd (let z : ◌≡◌ {A = ℕ} 0 1 = cc in omega arith)
-    go false e = let z : r ≡ Reserved = cc in (ap number z, refl, refl, refl)
+pub codes-number : (w : ℕ) (r : Refusal) → write_codes w ≡ Err r → number r ≡ 4
+codes-number = only-codes (λ k. k ≡ 4) refl
 
 -- ---- no two refusals share a number
 -- a refusal, but for what it holds

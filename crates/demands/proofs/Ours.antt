@@ -1,5 +1,6 @@
 -- The three demands, of our reader.
 -- Assumes nothing.
+use Rattle.std.specs.Prelude.{Ok, Err}
 use Prim.Native.Nat.{ℕ, ◌≤◌}
 use mathlib.Core.Path.{◌≡◌, refl, ap, ◌∙◌}
 use mathlib.Core.Bool.{Bool, true, false}
@@ -8,15 +9,14 @@ use native.Mathlib.Omega.{arith}
 use Rattle.words.specs.Bits.{even}
 use Rattle.words.specs.Refusals.{number, verdict_number}
 use Rattle.words.specs.declared.Refusal.{Refusal}
-use Rattle.words.specs.declared.Verdict.TheVariants as Verdict
-use Rattle.words.specs.Answer.{Res, ok, refuse}
+use Rattle.words.specs.Answer.{Res}
 use Rattle.unwinding.proofs.Walks.{Walks, no_room, refused, last, more, walks, walk-room}
 use Rattle.unwinding.specs.Extent.{of_extent}
 use Rattle.unwinding.proofs.Staying.{Stays}
 use Rattle.unwinding.proofs.TwoWalks.{listed-wider, walk-wider}
 use Rattle.unwinding.proofs.Singly.{untouched, agree}
 use Rattle.machine.specs.declared.Regs.{Regs}
-use Rattle.xdata.specs.Xdata.{size_answer}
+use Rattle.xdata.specs.Xdata.{xdata_size}
 use Rattle.frame.specs.Frame.{Inputs, Caller, frame, unwound}
 use Rattle.walking.specs.Walk.{arm, frames, Trail, walk, walked_all}
 use Rattle.walking.specs.declared.Stop.TheVariants as Stop
@@ -35,19 +35,19 @@ use Rattle.demands.proofs.Wider.{stays-frame, stays-size}
 use Rattle.demands.proofs.Numbers.{numbered, up_first, up_next, found_number, size_number, word_number, codes-number}
 use Rattle.demands.proofs.Whole.{whole-file}
 
--- ---- an answer by its verdict
-answer-stays : (g : Regs) (x y : Res Caller) → Stays x y → of_extent (verdict_number (unwound g x).verdict) ≡ false → unwound g y ≡ unwound g x
-answer-stays g (ok c) y h e = ap (unwound g) (h e)
-answer-stays g (refuse q) y h e = ap (unwound g) (h e)
+-- ---- a frame, by what is told of it
+answer-stays : (g : Regs) (x y : Res Caller) → Stays x y → of_extent (verdict_number (unwound g x).told) ≡ false → unwound g y ≡ unwound g x
+answer-stays g (Ok c) y h e = ap (unwound g) (h e)
+answer-stays g (Err q) y h e = ap (unwound g) (h e)
 
-answer-refused : (g : Regs) (x : Res Caller) (r : Refusal) → (unwound g x).verdict ≡ Verdict.Refused r → x ≡ refuse r
-answer-refused g (ok c) r v = absurd (let z : ◌≡◌ {A = ℕ} 0 1 = cc in omega arith)
-answer-refused g (refuse q) r v = cc
+answer-refused : (g : Regs) (x : Res Caller) (r : Refusal) → (unwound g x).told ≡ Err r → x ≡ Err r
+answer-refused g (Ok c) r v = absurd (let z : ◌≡◌ {A = ℕ} 0 1 = cc in omega arith)
+answer-refused g (Err q) r v = cc
 
 -- ---- the walk
 walk-number : (t : Inputs) {n : ℕ} {first : Bool} {g : Regs} {w : Trail} (r : Refusal) (pc : ℕ) → Walks arm (frames t) n first g w → w.stop ≡ Stop.Refused r pc → number r ≤ 13
 walk-number t r pc no_room e = absurd (let z : ◌≡◌ {A = ℕ} 0 1 = cc in omega arith)
-walk-number t {first} {g} r pc (refused s q) e = let z : s ≡ r = cc in up_next first t g r (q ∙ ap refuse z)
+walk-number t {first} {g} r pc (refused s q) e = let z : s ≡ r = cc in up_next first t g r (q ∙ ap Err z)
 walk-number t r pc (last c q z) e = absurd (let z : ◌≡◌ {A = ℕ} 0 1 = cc in omega arith)
 walk-number t r pc (more c q z below) e = walk-number t r pc below e
 
@@ -65,7 +65,7 @@ demand1 = record {
   frame-stays = λ t t' g w e. answer-stays g (frame t g) (frame t' g) (stays-frame t t' w true g) e;
   walk-stays = λ t t' g l w h. ap (walked_all l) (walk-wider arm (frames t) (frames t') (stays-frame t t' w) (length l) true g (λ s r z. h r (even s.pc) z));
   listed-stay = λ t t' g l w. agree arm l (walk t (length l) g) (walk t' (length l) g) (listed-wider arm (frames t) (frames t') (stays-frame t t' w) (length l) true g);
-  size-stays = λ x x' at m f e. ap size_answer (stays-size x x' m at f e);
+  size-stays = λ x x' at m f h. stays-size x x' m at f h;
   whole-file = whole-file;
   list-fits = listing-fits;
   show-fits = caller-fits;

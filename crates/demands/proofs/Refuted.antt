@@ -1,18 +1,21 @@
 -- Each sham of RULES 10.23 breaks the demand that is named there for it.
 -- Assumes nothing.
+use Rattle.std.specs.Prelude.{Ok, Err, is_ok, Bool, true, false, eqb, if◌then◌else◌}
 use Prim.Native.Nat.{ℕ, ◌<◌}
 use mathlib.Core.Path.{◌≡◌, refl, sym, ap, ◌∙◌, subst}
 use mathlib.Core.Logic.{◌≢◌}
 use mathlib.Core.List.{List, [], ◌∷◌}
 use lib.ListN.{get_or, replicate}
 use native.Mathlib.Omega.{arith}
+use borrow.Author.Tests.{eqb-true}
 use Rattle.words.specs.declared.Place.TheVariants.{Leaf, Prologue, Body}
 use Rattle.words.specs.declared.Refusal.{Refusal}
-use Rattle.words.specs.declared.Verdict.TheVariants.{Given, Refused}
-use Rattle.words.specs.Answer.{ok}
+use Rattle.words.specs.Answer.{Res}
+use Rattle.words.proofs.Answers.{ok_same}
 use Rattle.machine.specs.Registers.{reg}
 use Rattle.machine.specs.declared.Regs.{Regs}
 use Rattle.frame.specs.Frame.{Inputs, unwound, frame, leaf_of}
+use Rattle.frame.specs.declared.Told.{Told}
 use Rattle.frame.specs.declared.Unwound.{Unwound}
 use Rattle.walking.specs.Walk.{walk, walked_all}
 use Rattle.walking.specs.declared.Frame.{Frame}
@@ -25,7 +28,7 @@ use Rattle.forward.proofs.Memory.{outside-same}
 use Rattle.forward.proofs.Examples as Run
 use Rattle.demands.specs.Reader.{Reader, ours}
 use Rattle.demands.specs.Demand2.{Demand2}
-use Rattle.demands.specs.Shams.{refusing, fixed, as-leaf, inventing, Copying}
+use Rattle.demands.specs.Shams.{refusing, fixed, as-leaf, count_told, told_with, inventing, Copying}
 use Rattle.demands.proofs.Examples as Example
 
 -- ---- demand 3: a function entered with this r4 and stopped, as crate forward executes it
@@ -39,7 +42,7 @@ whole r4 = record { r = refl; d = refl }
 record Answered (unwind : Inputs → Regs → Unwound) (r4 : ℕ) : Type 0 where
   inputs : Inputs
   regs : Regs
-  given : (unwind inputs regs).verdict ≡ Given
+  given : is_ok (unwind inputs regs).told ≡ true
   kept : reg (unwind inputs regs).regs 4 ≡ r4
 
 answered : (unwind : Inputs → Regs → Unwound) → Demand3 unwind → (r4 : ℕ) → Answered unwind r4
@@ -53,7 +56,7 @@ answered unwind h r4 =
     record {
       inputs = _;
       regs = _;
-      given = ap (λ (u : Unwound). u.verdict) q ∙ f.answer.given;
+      given = ap (λ (u : Unwound). is_ok u.told) q ∙ ap is_ok f.answer.told;
       kept = ap (λ (u : Unwound). reg u.regs 4) q ∙ f.answer.r 4 (omega arith) (omega arith);
     }
 
@@ -61,7 +64,7 @@ answered unwind h r4 =
 no-refusing : (r : Inputs → Regs → Refusal) → Demand3 (refusing r).unwind → ⊥
 no-refusing r h =
     let a = answered (refusing r).unwind h 0 in
-    let q : Refused (r a.inputs a.regs) ≡ Given = a.given in
+    let q : false ≡ true = a.given in
     let z : ◌≡◌ {A = ℕ} 0 1 = cc in omega arith
 
 -- always the same caller, by two entries
@@ -71,14 +74,14 @@ no-fixed u h =
 
 -- ---- demand 2
 -- an answer like a leaf's, at offset 4 of RULES 5.11: there two codes run, and the caller's SP is another
-offset-4 : frame Example.inputs (Example.regs 0x00401004 0x20000) ≡ ok (record { regs = record { r = 0 ∷ 0 ∷ 0 ∷ 0 ∷ 0x44 ∷ 0x55 ∷ replicate 7 0; sp = 0x20014; lr = 0x00402011; pc = 0x00402010; d = replicate 32 0 }; place = Body; handler = 0; codes = 2 })
+offset-4 : frame Example.inputs (Example.regs 0x00401004 0x20000) ≡ Ok (record { regs = record { r = 0 ∷ 0 ∷ 0 ∷ 0 ∷ 0x44 ∷ 0x55 ∷ replicate 7 0; sp = 0x20014; lr = 0x00402011; pc = 0x00402010; d = replicate 32 0 }; place = Body; handler = 0; codes = 2 })
 unfolding opened
 offset-4 = refl
 
 no-leaf : Demand2 as-leaf → ⊥
 no-leaf h =
     let g = Example.regs 0x00401004 0x20000 in
-    let q : unwound g (ok (leaf_of g)) ≡ unwound g (frame Example.inputs g) = h.caller Example.inputs g in
+    let q : unwound g (Ok (leaf_of g)) ≡ unwound g (frame Example.inputs g) = h.caller Example.inputs g in
     let z : ◌≡◌ {A = ℕ} 0x20000 0x20014 = ap (λ (u : Unwound). u.regs.sp) (q ∙ ap (unwound g) offset-4) in omega arith
 
 -- a walk that repeats its first frame, by RULES 8.13
@@ -104,5 +107,19 @@ no-copying a h c =
     omega arith
 
 -- a made-up count of codes (RULES 3.16): one that differs at any frame
-no-inventing : (count : Inputs → Regs → ℕ) (t : Inputs) (g : Regs) → count t g ≢ (ours.unwind t g).codes → Demand2 (inventing count) → ⊥
-no-inventing count t g n h = n (ap (λ (u : Unwound). u.codes) (h.caller t g))
+counted : (n : ℕ) (x : Res Told) → told_with n x ≡ x → n ≡ count_told x
+counted n (Ok y) e =
+    let made : Told = record { place = y.place; handler = y.handler; codes = n } in
+    let z : made ≡ y = ok_same made y e in
+    ap (λ (u : Told). u.codes) z
+counted n (Err r) e = go (eqb n 0) refl e
+  where
+    made : Told
+    made = record { place = Leaf; handler = 0; codes = n }
+
+    go : (b : Bool) → eqb n 0 ≡ b → ◌≡◌ {A = Res Told} (if b then Err r else Ok made) (Err r) → n ≡ 0
+    go true q f = eqb-true n 0 q
+    go false q f = absurd (let z : ◌≡◌ {A = ℕ} 0 1 = cc in omega arith)
+
+no-inventing : (count : Inputs → Regs → ℕ) (t : Inputs) (g : Regs) → count t g ≢ count_told (ours.unwind t g).told → Demand2 (inventing count) → ⊥
+no-inventing count t g n h = n (counted (count t g) (ours.unwind t g).told (ap (λ (u : Unwound). u.told) (h.caller t g)))

@@ -1,6 +1,6 @@
 -- Order 1, of our reader of regions: by what a table's tests say.
 -- Assumes nothing.
-use Rattle.std.specs.Prelude.{if◌then◌else◌}
+use Rattle.std.specs.Prelude.{if◌then◌else◌, Ok, Err}
 use Prim.Native.Nat.{ℕ, ◌+◌, ◌-◌, ◌%◌, ◌≤◌}
 use mathlib.Core.Path.{◌≡◌, refl, ap, subst}
 use mathlib.Core.Logic.{◌⊎◌, inl, inr}
@@ -10,7 +10,7 @@ use lib.ListN.{length}
 use native.Mathlib.Omega.{arith}
 use Rattle.words.specs.Refusals.{number}
 use Rattle.words.specs.declared.Refusal.{Refusal}
-use Rattle.words.specs.Answer.{Res, ok, refuse, either}
+use Rattle.words.specs.Answer.{Res, either}
 use Rattle.lent.specs.Lent.{Lent, word_at}
 use Rattle.xdata.specs.Xdata.{handled, xdata_size}
 use Rattle.regions.specs.declared.Region.{Region}
@@ -59,8 +59,8 @@ module _ (x : Lent) where
   lists a = go (xdata_size x a) (only-size Number (inl refl) (inr (inl refl)) (inr (inr (inl refl))) x a)
     where
       go : (r : Res ℕ) → Only Number r → Lists (either r (λ q. denied (Record q)) (λ n. table_behind x (a - a % 4) n))
-      go (ok n) h = lists-behind (a - a % 4) n (handled (word_at x (a - a % 4)))
-      go (refuse q) h = not-a-record q (h q refl)
+      go (Ok n) h = lists-behind (a - a % 4) n (handled (word_at x (a - a % 4)))
+      go (Err q) h = not-a-record q (h q refl)
 
 -- ---- the claims, by cases
 denied-number : {l : Listed} (r : RegionRefusal) → Lists l → l ≡ denied r → Number (region_number r)

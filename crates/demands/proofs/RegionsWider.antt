@@ -1,7 +1,7 @@
 -- The regions of a record are the same from more lent .xdata, since no byte outside was read; and so are their refusals, but for those of
 -- how much is lent.
 -- Assumes nothing.
-use Rattle.std.specs.Prelude.{if◌then◌else◌}
+use Rattle.std.specs.Prelude.{if◌then◌else◌, Ok, Err}
 use Prim.Native.Nat.{ℕ, zero, suc, ◌+◌, ◌-◌, ◌*◌, ◌%◌, ◌≤◌}
 use mathlib.Core.Path.{◌≡◌, refl, sym, ap, ap₂, ◌∙◌}
 use mathlib.Core.Bool.{Bool, true, false, true≢false, ◌&&◌}
@@ -11,7 +11,7 @@ use lib.ListN.{length}
 use native.Mathlib.Omega.{arith}
 use borrow.Author.Tests.{not-true}
 use Rattle.words.specs.declared.Refusal.TheVariants.{OutsideXdata, UnfitInput}
-use Rattle.words.specs.Answer.{Res, ok, refuse}
+use Rattle.words.specs.Answer.{Res}
 use Rattle.words.proofs.Answers.{bind_ok, need-ok}
 use Rattle.words.proofs.Tests.{both}
 use Rattle.lent.specs.Lent.{Lent, end, holds, word_at}
@@ -32,7 +32,7 @@ abbrev table_by : Bool → List Region → Listed
 table_by t rs = if t then (if sound rs then listed rs else denied Crossed) else denied TableOutside
 
 -- the first word of a record that has a size is lent
-size-held : (x : Lent) (a n : ℕ) → xdata_size x a ≡ ok n → holds x (a - a % 4) 4 ≡ true
+size-held : (x : Lent) (a n : ℕ) → xdata_size x a ≡ Ok n → holds x (a - a % 4) 4 ≡ true
 unfolding xdata_size head_at
 size-held x a n h =
     let q = bind_ok (head_at x (a - a % 4)) _ n (need-ok (fit_xdata x) UnfitInput _ n h).1 in
@@ -100,9 +100,9 @@ module _ (x x' : Lent) (m : More x x') where
   regions-stay a f = go (xdata_size x a) refl
     where
       go : (r : Res ℕ) → xdata_size x a ≡ r → lasting (regions_of x a) ≡ true → regions_of x' a ≡ regions_of x a
-      go (ok n) e =
-          let e' : xdata_size x' a ≡ ok n = stays-given (xdata_size x a) (xdata_size x' a) n (stays-size x x' m a f) e in
+      go (Ok n) e =
+          let e' : xdata_size x' a ≡ Ok n = stays-given (xdata_size x a) (xdata_size x' a) n (stays-size x x' m a f) e in
           rw (e, e') (λ l. same-behind (a - a % 4) n (size-held x a n e) l)
-      go (refuse r) e =
-          let s : Stays (refuse r) (xdata_size x' a) = rw e at (stays-size x x' m a f) in
+      go (Err r) e =
+          let s : Stays (Err r) (xdata_size x' a) = rw e at (stays-size x x' m a f) in
           rw e (λ l. rw (s (not-true _ l)) refl)

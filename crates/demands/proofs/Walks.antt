@@ -1,7 +1,8 @@
 -- The walk laws, of our reader.
 -- Assumes nothing.
+use Rattle.std.specs.Prelude.{Ok, Err}
 use mathlib.Core.Path.{◌≡◌, refl}
-use Rattle.words.specs.Answer.{Res, ok, refuse}
+use Rattle.words.specs.Answer.{Res}
 use Rattle.unwinding.specs.Singly.{alone_of}
 use Rattle.unwinding.proofs.Singly.{follows, less-room}
 use Rattle.machine.specs.declared.Regs.{Regs}
@@ -12,8 +13,8 @@ use Rattle.demands.specs.WalkLaws.{WalkLaws}
 use Rattle.demands.proofs.Later.{later-frame}
 
 alone-is : (g : Regs) (x : Res Caller) → alone (unwound g x) ≡ alone_of arm g x
-alone-is g (ok c) = refl
-alone-is g (refuse r) = refl
+alone-is g (Ok c) = refl
+alone-is g (Err r) = refl
 
 pub walk-laws : WalkLaws ours
 walk-laws = record {

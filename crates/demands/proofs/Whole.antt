@@ -1,5 +1,6 @@
 -- A report has no proper beginning that is one, and is the beginning of no longer one: its first words say how long it is.
 -- Assumes nothing.
+use Rattle.std.specs.Prelude.{Ok, Err}
 use Prim.Native.Nat.{ℕ, ◌+◌, ◌≤◌, ◌<◌}
 use mathlib.Core.Path.{◌≡◌, refl, ap}
 use mathlib.Core.Logic.{◌≢◌, ◌⊎◌, inl, inr}
@@ -11,7 +12,6 @@ use native.Mathlib.Omega.{arith}
 use borrow.Author.Tests.{leb-true, leb-false, eqb-true, eqb-false}
 use Rattle.lent.specs.Lent.{lent, word_at}
 use Rattle.words.specs.declared.Refusal.TheVariants.{UnfitReport}
-use Rattle.words.specs.Answer.{ok, refuse}
 use Rattle.report.specs.Report.{Report, report, head_bytes, end_at}
 use Rattle.listing.specs.Listing.{printed, listing}
 use Rattle.report.proofs.Reading.{too_short, not-whole}
@@ -22,12 +22,12 @@ use Rattle.demands.specs.Reader.{ours}
 use Rattle.demands.specs.Demand1.{Unfit}
 use Rattle.demands.proofs.Wider.{more-word}
 
-unfit : (s : List ℕ) → report s ≡ refuse UnfitReport → Unfit ours s
+unfit : (s : List ℕ) → report s ≡ Err UnfitReport → Unfit ours s
 unfolding listing caller_text opened
 unfit s e = (rw e refl, rw e refl)
 
 -- so that what is no report is told from what is one: a report's listing starts with another letter
-fit : (s : List ℕ) (p : Report) → report s ≡ ok p → listing s ≢ text "refused 14\n"
+fit : (s : List ℕ) (p : Report) → report s ≡ Ok p → listing s ≢ text "refused 14\n"
 unfolding listing printed
 fit s p e q = let z : ◌≡◌ {A = ℕ} 0x66 0x72 = ap (λ (t : List ℕ). get_or t 0 0) (rw e at q) in omega arith
 

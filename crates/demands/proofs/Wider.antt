@@ -1,12 +1,11 @@
 -- Demand 1's heart: what is answered from some lent bytes, a refusal too unless it is of how much is lent, is answered from more of them
 -- too, since no byte outside was read.
 -- Assumes nothing.
-use Rattle.std.specs.Prelude.{if◌then◌else◌}
+use Rattle.std.specs.Prelude.{if◌then◌else◌, Ok, Option, None, Some}
 use Prim.Native.Nat.{ℕ, zero, suc, ◌+◌, ◌-◌, ◌*◌, ◌%◌, ◌^◌, ◌≤◌, ◌<◌}
 use mathlib.Core.Path.{◌≡◌, refl, ap, ap₂, ◌∙◌}
 use mathlib.Core.List.{List, ◌++◌}
 use mathlib.Core.Bool.{Bool, true, false, ◌&&◌}
-use mathlib.Core.Option.{Option, none, some}
 use lib.ListN.{length, get_or, take, drop, length-append, length-drop, get_or-append}
 use lib.Seq.{get_or-append-add, drop-append-add, drop-append-le, take-append-le}
 use lib.Dec.{leb, ltb, eqb}
@@ -16,7 +15,7 @@ use Rattle.words.specs.Bits.{bits, bit, even}
 use Rattle.lent.specs.Lent.{Lent, end, holds, word_at}
 use Rattle.words.specs.Units.{code_word_bytes}
 use Rattle.words.specs.declared.Refusal.TheVariants.{BadStack, OutsideXdata, Reserved, UnfitInput}
-use Rattle.words.specs.Answer.{ok, maybe}
+use Rattle.words.specs.Answer.{maybe}
 use Rattle.unwinding.specs.CodeList.{run}
 use Rattle.unwinding.specs.Shape.{Shape}
 use Rattle.unwinding.specs.View.{view}
@@ -105,8 +104,8 @@ module _ (k k' : Lent) (m : More k k') where
   stays-load : (a : ℕ) → Stays (load k a) (load k' a)
   unfolding load
   stays-load a =
-      stays-need (holds k a 4) (holds k' a 4) BadStack (ok (word_at k a)) (ok (word_at k' a)) refl (more-holds k k' m a 4)
-      (λ h q. let p = inside k a 4 h in ap ok (more-word k k' m a p.0 p.1))
+      stays-need (holds k a 4) (holds k' a 4) BadStack (Ok (word_at k a)) (Ok (word_at k' a)) refl (more-holds k k' m a 4)
+      (λ h q. let p = inside k a 4 h in ap Ok (more-word k k' m a p.0 p.1))
 
   stays-pop_reg : (x : ℕ) (g : Regs) → Stays (pop_reg k x g) (pop_reg k' x g)
   unfolding pop_reg
@@ -118,7 +117,7 @@ module _ (k k' : Lent) (m : More k k') where
       stays-bind (load k g.sp) (load k' g.sp) _ _ (stays-load g.sp)
       (λ w p. stays-bind (load k (g.sp + 4)) (load k' (g.sp + 4)) _ _ (stays-load (g.sp + 4)) (λ v q e. refl))
 
-  stays-if : (b : Bool) (x : ℕ) (g : Regs) → Stays (if b then pop_reg k x g else ok g) (if b then pop_reg k' x g else ok g)
+  stays-if : (b : Bool) (x : ℕ) (g : Regs) → Stays (if b then pop_reg k x g else Ok g) (if b then pop_reg k' x g else Ok g)
   stays-if true x g = stays-pop_reg x g
   stays-if false x g = λ e. refl
 
@@ -164,7 +163,7 @@ module _ (x x' : Lent) (m : More x x') where
       let e : word_at x' (a + 4) ≡ word_at x (a + 4) = more-word x x' m (a + 4) (omega (arith, p.0)) (omega (arith, p.1)) in
       rw e (λ q. refl))
 
-  stays-kind : (t : Bool) (a w : ℕ) → Stays (if t then long_head x a w else ok (short_head w)) (if t then long_head x' a w else ok (short_head w))
+  stays-kind : (t : Bool) (a w : ℕ) → Stays (if t then long_head x a w else Ok (short_head w)) (if t then long_head x' a w else Ok (short_head w))
   stays-kind true a w = stays-long a w
   stays-kind false a w = λ e. refl
 
@@ -176,7 +175,7 @@ module _ (x x' : Lent) (m : More x x') where
       let e : word_at x' a ≡ word_at x a = more-word x x' m a p.0 p.1 in
       rw e
       (stays-test (eqb (bits 18 2 (word_at x a)) 0) Reserved _ _
-      (λ q. stays-bind (if eqb (bits 23 9 (word_at x a)) 0 then long_head x a (word_at x a) else ok (short_head (word_at x a))) (if eqb (bits 23 9 (word_at x a)) 0 then long_head x' a (word_at x a) else ok (short_head (word_at x a))) _ _ (stays-kind (eqb (bits 23 9 (word_at x a)) 0) a (word_at x a))
+      (λ q. stays-bind (if eqb (bits 23 9 (word_at x a)) 0 then long_head x a (word_at x a) else Ok (short_head (word_at x a))) (if eqb (bits 23 9 (word_at x a)) 0 then long_head x' a (word_at x a) else Ok (short_head (word_at x a))) _ _ (stays-kind (eqb (bits 23 9 (word_at x a)) 0) a (word_at x a))
       (λ g r. stays-need (holds x a (record_bytes g)) (holds x' a (record_bytes g)) OutsideXdata _ _ refl (more-holds x x' m a (record_bytes g)) (λ s z. refl)))))
 
   pub stays-size : (a : ℕ) → fit_xdata x' ≡ true → Stays (xdata_size x a) (xdata_size x' a)
@@ -210,7 +209,7 @@ module _ (x x' : Lent) (m : More x x') where
       (λ h p. let w = inside x a (record_bytes h) (head_small x a h p).lent in
       let s = same-scopes (scope_count h) (a + h.bytes) (omega (arith, w.0)) (omega (arith, w.1)) in
       stays-bind (scopes_at x (a + h.bytes) (scope_count h)) (scopes_at x' (a + h.bytes) (scope_count h)) _ _ (λ e. s)
-      (λ l q e. ap ok (same_full a h l w.0 w.1)))
+      (λ l q e. ap Ok (same_full a h l w.0 w.1)))
 
   pub stays_at : (w : ℕ) → Stays (shape_at x w) (shape_at x' w)
   stays_at w = go (eqb (bits 0 2 w) 0)
@@ -233,8 +232,8 @@ module _ (t t' : Inputs) (w : Wider t t') (first : Bool) where
       (λ s p. stays-covered (ltb (even g.pc - t.image - e.start) s.span) s (even g.pc - t.image - e.start) g))
 
   stays-found : (e : Option Entry) (g : Regs) → Stays (maybe e (uncovered first g) (λ e. by_record first t e g)) (maybe e (uncovered first g) (λ e. by_record first t' e g))
-  stays-found none g = λ e. refl
-  stays-found (some e) g = stays-record e g
+  stays-found None g = λ e. refl
+  stays-found (Some e) g = stays-record e g
 
   pub stays-frame : (g : Regs) → Stays (frame_of first t g) (frame_of first t' g)
   unfolding frame_of

@@ -1,16 +1,13 @@
 -- Demand 1 (RULES 10.1), as laws on answers (RULES 10.2). That it answers at all, whatever is damaged, is said by its type: a reader
 -- answers every input.
-use Rattle.std.specs.Prelude.{ℕ, ◌+◌, ◌≤◌, ◌≡◌, ◌≢◌, ◌⊎◌, List, [], ◌++◌, true, false, ◌&&◌, length, replicate}
+use Rattle.std.specs.Prelude.{ℕ, ◌+◌, ◌≤◌, ◌≡◌, ◌≢◌, ◌⊎◌, List, [], ◌++◌, true, false, ◌&&◌, length, Ok, Err}
 use Rattle.lent.specs.Lent.{Lent}
 use Rattle.words.specs.Refusals.{number, verdict_number}
 use Rattle.words.specs.declared.Refusal.{Refusal}
-use Rattle.words.specs.declared.Verdict.TheVariants as Verdict
-use Rattle.words.specs.Answer.{refuse}
 use Rattle.unwinding.specs.Extent.{of_extent}
 use Rattle.unwinding.specs.Singly.{Untouched, Agree}
 use Rattle.machine.specs.declared.Regs.{Regs}
 use Rattle.xdata.specs.Xdata.{fit_xdata}
-use Rattle.pdata.specs.declared.Found.TheVariants as Found
 use Rattle.packed.specs.declared.Packed.{Packed}
 use Rattle.frame.specs.Frame.{Inputs, fit_stack, unwound}
 use Rattle.walking.specs.Walk.{arm}
@@ -40,24 +37,24 @@ Unfit a file = (a.list file ≡ text "refused 14\n") × (a.show file ≡ text "r
 
 pub record Demand1 (a : Reader) : Type 0 where
   -- the numbers of its refusals (RULES 9.56): of one frame 1 to 11, of a walk 1 to 13, of finding 1 to 3
-  pub frame-number : (t : Inputs) (g : Regs) (r : Refusal) → (a.unwind t g).verdict ≡ Verdict.Refused r → (1 ≤ number r) × (number r ≤ 11)
+  pub frame-number : (t : Inputs) (g : Regs) (r : Refusal) → (a.unwind t g).told ≡ Err r → (1 ≤ number r) × (number r ≤ 11)
   pub walk-number : (t : Inputs) (g : Regs) (l : List Frame) (r : Refusal) (pc : ℕ) → (a.walk t g l).walked.stop ≡ Stop.Refused r pc → (1 ≤ number r) × (number r ≤ 13)
-  pub find-number : (image : ℕ) (pdata : List ℕ) (pc : ℕ) (r : Refusal) → a.find image pdata pc ≡ Found.Refused r → (1 ≤ number r) × (number r ≤ 3)
-  -- of a size 1, 4 or 5, of both writers 4, and what they then give is zeros (RULES 2.13, 4.18, 4.19)
-  pub size_number : (x : Lent) (at : ℕ) (r : Refusal) → (a.size x at).verdict ≡ Verdict.Refused r → ((number r ≡ 1) ⊎ (number r ≡ 4) ⊎ (number r ≡ 5)) × ((a.size x at).bytes ≡ 0)
-  pub word_number : (p : Packed) (r : Refusal) → (a.word p).verdict ≡ Verdict.Refused r → (number r ≡ 4) × ((a.word p).word ≡ 0)
-  pub codes-number : (w : ℕ) (r : Refusal) → (a.codes w).verdict ≡ Verdict.Refused r → (number r ≡ 4) × ((a.codes w).bytes ≡ replicate 16 0) × ((a.codes w).first.0 ≡ 0) × ((a.codes w).second.0 ≡ 0)
-  -- a refused frame is the registers as they came, place leaf and zeros (RULES 6.7)
-  pub given_back : (t : Inputs) (g : Regs) (r : Refusal) → (a.unwind t g).verdict ≡ Verdict.Refused r → a.unwind t g ≡ unwound g (refuse r)
+  pub find-number : (image : ℕ) (pdata : List ℕ) (pc : ℕ) (r : Refusal) → a.find image pdata pc ≡ Err r → (1 ≤ number r) × (number r ≤ 3)
+  -- of a size 1, 4 or 5, of both writers 4 (RULES 2.13, 4.18, 4.19)
+  pub size_number : (x : Lent) (at : ℕ) (r : Refusal) → a.size x at ≡ Err r → (number r ≡ 1) ⊎ (number r ≡ 4) ⊎ (number r ≡ 5)
+  pub word_number : (p : Packed) (r : Refusal) → a.word p ≡ Err r → number r ≡ 4
+  pub codes-number : (w : ℕ) (r : Refusal) → a.codes w ≡ Err r → number r ≡ 4
+  -- a refused frame is the registers as they came (RULES 6.7)
+  pub given_back : (t : Inputs) (g : Regs) (r : Refusal) → (a.unwind t g).told ≡ Err r → a.unwind t g ≡ unwound g (Err r)
   -- records that a walk does not fill stay as lent, however it stops (RULES 7.2)
   pub untouched : (t : Inputs) (g : Regs) (l : List Frame) → Untouched arm l (seen (a.walk t g l))
   -- only lent bytes are read, and a missing one does not count as 0 (RULES 1.8): an answer, given or refused by anything but how much is
   -- lent, does not change with what lies beyond
-  pub frame-stays : (t t' : Inputs) (g : Regs) → Wider t t' → of_extent (verdict_number (a.unwind t g).verdict) ≡ false → a.unwind t' g ≡ a.unwind t g
+  pub frame-stays : (t t' : Inputs) (g : Regs) → Wider t t' → of_extent (verdict_number (a.unwind t g).told) ≡ false → a.unwind t' g ≡ a.unwind t g
   pub walk-stays : (t t' : Inputs) (g : Regs) (l : List Frame) → Wider t t' → ((r : Refusal) (pc : ℕ) → (a.walk t g l).walked.stop ≡ Stop.Refused r pc → of_extent (number r) ≡ false) → a.walk t' g l ≡ a.walk t g l
   -- so too for the frames that a walk lists before it is refused, by any number
   pub listed-stay : (t t' : Inputs) (g : Regs) (l : List Frame) → Wider t t' → Agree arm (a.walk t g l).walked.frames (seen (a.walk t g l)) (seen (a.walk t' g l))
-  pub size-stays : (x x' : Lent) (at : ℕ) → More x x' → fit_xdata x' ≡ true → of_extent (verdict_number (a.size x at).verdict) ≡ false → a.size x' at ≡ a.size x at
+  pub size-stays : (x x' : Lent) (at : ℕ) → More x x' → fit_xdata x' ≡ true → of_extent (verdict_number (a.size x at)) ≡ false → a.size x' at ≡ a.size x at
   -- a report ends with its parts (RULES 8.2): cut short, or with more bytes, it is none
   pub whole-file : (file more : List ℕ) → more ≢ [] → Unfit a file ⊎ Unfit a (file ++ more)
   -- what the programs print fits their buffers (RULES 8.7)

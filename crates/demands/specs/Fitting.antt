@@ -1,15 +1,13 @@
 -- Order 3 of document 02: whether a record fits its code (RULES section 13), asked of any checker.
-use Rattle.std.specs.Prelude.{ℕ, ◌≤◌, ◌≡◌, ◌⊎◌, Bool, true, false, not, List, ◌++◌}
+use Rattle.std.specs.Prelude.{ℕ, ◌≤◌, ◌≡◌, ◌⊎◌, Bool, true, false, not, List, ◌++◌, Ok, Err}
 use Rattle.words.specs.Refusals.{number}
 use Rattle.lent.specs.Lent.{Lent}
 use Rattle.unwinding.specs.Extent.{of_extent}
 use Rattle.xdata.specs.Xdata.{fit_xdata}
-use Rattle.fitting.specs.Fitting.{fit_number, fitted}
+use Rattle.fitting.specs.Fitting.{fit_number, Fitted, fitted}
 use Rattle.fitting.specs.Exactly.{Exactly}
 use Rattle.fitting.specs.declared.FitRefusal.{FitRefusal}
 use Rattle.fitting.specs.declared.FitRefusal.TheVariants.{Record, Short, Differs}
-use Rattle.fitting.specs.declared.Fitted.{Fitted}
-use Rattle.fitting.specs.declared.Fitted.TheVariants.{Fits, Refused}
 use Rattle.fits_text.specs.FitsText.{fits_text}
 use Rattle.demands.specs.Demand1.{More}
 
@@ -23,10 +21,10 @@ ours_of_fits = record { fits = fitted; text = fits_text }
 
 -- an answer that does not say that something is not lent
 abbrev pub lasts : Fitted → Bool
-lasts Fits = true
-lasts (Refused (Record r)) = not (of_extent (number r))
-lasts (Refused Short) = false
-lasts (Refused (Differs o)) = true
+lasts (Ok u) = true
+lasts (Err (Record r)) = not (of_extent (number r))
+lasts (Err Short) = false
+lasts (Err (Differs o)) = true
 
 -- 1, 4 to 7, 17 or 18 (RULES 9.59)
 abbrev pub FitNumber : ℕ → Type 0
@@ -38,7 +36,7 @@ pub record Order3 (a : Checker) : Type 0 where
   pub printed : (file : List ℕ) → a.text file ≡ ours_of_fits.text file
   -- a record passes exactly if each of its instructions is the one that its code stands for, and so for each refusal
   pub exactly : (x : Lent) (w : ℕ) (s : List ℕ) → Exactly (a.fits x w s) x w s
-  pub numbered : (x : Lent) (w : ℕ) (s : List ℕ) (r : FitRefusal) → a.fits x w s ≡ Refused r → FitNumber (fit_number r)
+  pub numbered : (x : Lent) (w : ℕ) (s : List ℕ) (r : FitRefusal) → a.fits x w s ≡ Err r → FitNumber (fit_number r)
   -- only lent bytes are read (RULES 1.8): with more .xdata around the same bytes, and more code behind the function, an answer stays, unless it
   -- was that something is not there
   pub stays : (x x' : Lent) (w : ℕ) (s more : List ℕ) → More x x' → fit_xdata x' ≡ true → lasts (a.fits x w s) ≡ true → a.fits x' w (s ++ more) ≡ a.fits x w s

@@ -1,16 +1,16 @@
 -- Shams (RULES 10.23): readers that look like one, and that a demand must break (proofs/Refuted.antt).
-use Rattle.std.specs.Prelude.{ℕ, ◌-◌, ◌<◌, ◌≡◌, List, [], ◌∷◌, ◌++◌, leb, eqb, length, take, replicate, get_or, if◌then◌else◌}
+use Rattle.std.specs.Prelude.{ℕ, ◌-◌, ◌<◌, ◌≡◌, List, [], ◌∷◌, ◌++◌, leb, eqb, length, take, replicate, get_or, if◌then◌else◌, Ok, Err}
 use Rattle.words.specs.Bits.{bit}
 use Rattle.lent.specs.Lent.{Lent, word_at}
 use Rattle.words.specs.Units.{code_bytes}
+use Rattle.words.specs.declared.Place.TheVariants.{Leaf}
 use Rattle.words.specs.declared.Refusal.{Refusal}
-use Rattle.words.specs.declared.Verdict.TheVariants.{Given}
-use Rattle.words.specs.Answer.{ok, refuse}
+use Rattle.words.specs.Answer.{Res, either, or_else, ◌>>◌}
 use Rattle.machine.specs.declared.Regs.{Regs}
 use Rattle.packed.specs.declared.Packed.{Packed}
-use Rattle.packed.specs.declared.WordOf.{WordOf}
 use Rattle.packed_codes.specs.declared.CodesOf.{CodesOf}
 use Rattle.frame.specs.Frame.{Inputs, unwound, leaf_of}
+use Rattle.frame.specs.declared.Told.{Told}
 use Rattle.frame.specs.declared.Unwound.{Unwound}
 use Rattle.walking.specs.declared.Frame.{Frame}
 use Rattle.walking.specs.declared.WalkedAll.{WalkedAll}
@@ -23,7 +23,7 @@ with-unwind u =
 
 -- it always refuses
 abbrev pub refusing : (Inputs → Regs → Refusal) → Reader
-refusing r = with-unwind (λ t g. unwound g (refuse (r t g)))
+refusing r = with-unwind (λ t g. unwound g (Err (r t g)))
 
 -- it always has the same caller
 abbrev pub fixed : Unwound → Reader
@@ -31,11 +31,19 @@ fixed u = with-unwind (λ t g. u)
 
 -- it answers like a leaf
 abbrev pub as-leaf : Reader
-as-leaf = with-unwind (λ t g. unwound g (ok (leaf_of g)))
+as-leaf = with-unwind (λ t g. unwound g (Ok (leaf_of g)))
 
--- its count of codes is made up, in any way
+-- the count of codes that is told of a frame, 0 of a refused one (RULES 6.7)
+abbrev pub count_told : Res Told → ℕ
+count_told x = either x (λ r. 0) (λ c. c.codes)
+
+-- its count of codes is made up, in any way: a refused frame that should count some is told as a leaf that does
+abbrev pub told_with : ℕ → Res Told → Res Told
+told_with n (Ok c) = Ok (record { place = c.place; handler = c.handler; codes = n })
+told_with n (Err r) = if eqb n 0 then Err r else Ok (record { place = Leaf; handler = 0; codes = n })
+
 abbrev pub recounted : ℕ → Unwound → Unwound
-recounted n u = record { verdict = u.verdict; regs = u.regs; place = u.place; handler = u.handler; codes = n }
+recounted n u = record { regs = u.regs; told = told_with n u.told }
 
 abbrev pub inventing : (Inputs → Regs → ℕ) → Reader
 inventing count = with-unwind (λ t g. recounted (count t g) (ours.unwind t g))
@@ -66,13 +74,13 @@ skipping = with-walk (λ t g l. ours.walk t (if leb (length l) 1 then (ours.unwi
 -- ours, but for the bytes of a size: those without the handler's word
 abbrev pub resized : (Lent → ℕ → ℕ) → Reader
 resized n =
-    record { find = ours.find; unwind = ours.unwind; walk = ours.walk; size = λ x at. record { verdict = (ours.size x at).verdict; bytes = n x at }; word = ours.word; codes = ours.codes; list = ours.list; show = ours.show }
+    record { find = ours.find; unwind = ours.unwind; walk = ours.walk; size = λ x at. ours.size x at >> Ok (n x at); word = ours.word; codes = ours.codes; list = ours.list; show = ours.show }
 
 abbrev pub handlerless : Lent → ℕ → ℕ
-handlerless x at = (ours.size x at).bytes - (if bit 20 (word_at x at) then 4 else 0)
+handlerless x at = or_else (ours.size x at) 0 - (if bit 20 (word_at x at) then 4 else 0)
 
 -- ours, but for packed words and their code bytes
-abbrev pub with-packed : (Packed → WordOf) → (ℕ → CodesOf) → Reader
+abbrev pub with-packed : (Packed → Res ℕ) → (ℕ → Res CodesOf) → Reader
 with-packed word codes =
     record { find = ours.find; unwind = ours.unwind; walk = ours.walk; size = ours.size; word = word; codes = codes; list = ours.list; show = ours.show }
 
@@ -84,7 +92,7 @@ forgetting =
 -- other lists for one word
 abbrev pub coding : ℕ → (first second : List ℕ) → Reader
 coding word k l =
-    with-packed ours.word (λ w. if eqb w word then record { verdict = Given; bytes = take 16 (k ++ l ++ replicate 16 0); first = code_bytes (length k); second = code_bytes (length l) } else ours.codes w)
+    with-packed ours.word (λ w. if eqb w word then Ok (record { bytes = take 16 (k ++ l ++ replicate 16 0); first = code_bytes (length k); second = code_bytes (length l) }) else ours.codes w)
 
 -- pop {r4,lr} coded as D4, of 16 bits, while it has 32 (RULES 4.20), in an epilogue that branches: Ret=1, L=1
 abbrev pub narrow-pop : Reader

@@ -1,9 +1,8 @@
 -- An .xdata record's size, asked of any reader that gives one: four bytes for each word of the record, counted off the lent words themselves,
 -- and all of them lent.
-use Rattle.std.specs.Prelude.{ℕ, ◌+◌, ◌-◌, ◌*◌, ◌%◌, ◌≤◌, ◌≡◌, eqb, if◌then◌else◌}
+use Rattle.std.specs.Prelude.{ℕ, ◌+◌, ◌-◌, ◌*◌, ◌%◌, ◌≤◌, ◌≡◌, eqb, if◌then◌else◌, Ok}
 use Rattle.words.specs.Bits.{bits, bit}
 use Rattle.lent.specs.Lent.{Lent, end, word_at}
-use Rattle.words.specs.declared.Verdict.TheVariants.{Given}
 use Rattle.demands.specs.Reader.{Reader}
 
 -- the words of a record that begins with w and v: its head, its scopes, its codes and its handler (RULES 2.8 to 2.13)
@@ -16,6 +15,5 @@ word_count w v =
 
 -- of the size given for a record's RVA, whose bits 0-1 are cleared (RULES 2.13)
 pub record SizeLaws (a : Reader) : Type 0 where
-  pub counted : (x : Lent) (at : ℕ) → (a.size x at).verdict ≡ Given
-      → (a.size x at).bytes ≡ 4 * word_count (word_at x (at - at % 4)) (word_at x (at - at % 4 + 4))
-  pub inside : (x : Lent) (at : ℕ) → (a.size x at).verdict ≡ Given → (x.base ≤ at - at % 4) × (at - at % 4 + (a.size x at).bytes ≤ end x)
+  pub counted : (x : Lent) (at n : ℕ) → a.size x at ≡ Ok n → n ≡ 4 * word_count (word_at x (at - at % 4)) (word_at x (at - at % 4 + 4))
+  pub inside : (x : Lent) (at n : ℕ) → a.size x at ≡ Ok n → (x.base ≤ at - at % 4) × (at - at % 4 + n ≤ end x)

@@ -1,6 +1,6 @@
 -- The instruction of an epilogue does what its code does, where the SP that the code leaves has 32 bits.
 -- Assumes nothing.
-use Rattle.std.specs.Prelude.{if◌then◌else◌}
+use Rattle.std.specs.Prelude.{if◌then◌else◌, Ok}
 use Prim.Native.Nat.{ℕ, ◌+◌, ◌-◌, ◌^◌, ◌<◌}
 use mathlib.Core.Path.{◌≡◌, refl, sym, subst, ◌∙◌}
 use mathlib.Core.Bool.{Bool, true, false}
@@ -11,7 +11,7 @@ use native.Mathlib.Omega.{arith}
 use borrow.Author.Tests.{eqb-true, lt-ltb, ne_eqb}
 use Rattle.words.specs.Bits.{bit, bits}
 use Rattle.words.specs.Units.{stack_bytes}
-use Rattle.words.specs.Answer.{ok, ◌>>=◌}
+use Rattle.words.specs.Answer.{◌>>=◌}
 use Rattle.words.proofs.Answers.{bind_ok, ok_same}
 use Rattle.lent.specs.Lent.{Lent}
 use Rattle.codes.specs.declared.Undo.{Undo}
@@ -94,13 +94,13 @@ loaded-done xs s t after f l m = loads-done (bytes xs) xs s t after f l.whole l.
 -- LR and then further up
 pub record LrLoaded (k : Lent) (n : ℕ) (g after : Regs) : Type 0 where
   pub word : ℕ
-  pub given : load k g.sp ≡ ok word
+  pub given : load k g.sp ≡ Ok word
   pub is : set_sp (set_reg g 14 word) (g.sp + n) ≡ after
 
-pub lr-loaded : (k : Lent) (n : ℕ) (g after : Regs) → (load k g.sp >>= λ w. ok (set_sp (set_reg g 14 w) (g.sp + n))) ≡ ok after → LrLoaded k n g after
+pub lr-loaded : (k : Lent) (n : ℕ) (g after : Regs) → (load k g.sp >>= λ w. Ok (set_sp (set_reg g 14 w) (g.sp + n))) ≡ Ok after → LrLoaded k n g after
 lr-loaded k n g after e = let a = bind_ok (load k g.sp) _ after e in record { word = a.0; given = a.1; is = ok_same _ _ a.2 }
 
-lr-popped : (k : Lent) (g : Regs) (w : ℕ) → load k g.sp ≡ ok w → pop_reg k 14 g ≡ ok (set_sp (set_reg g 14 w) (g.sp + 4))
+lr-popped : (k : Lent) (g : Regs) (w : ℕ) → load k g.sp ≡ Ok w → pop_reg k 14 g ≡ Ok (set_sp (set_reg g 14 w) (g.sp + 4))
 unfolding pop_reg
 lr-popped k g w e = rw e refl
 
@@ -121,7 +121,7 @@ from-done x s t l n f =
     let same : read g x ≡ reg g x = rw (ne_eqb x 15 x15, ne_eqb x 13 n, lt-ltb x 16 (omega arith)) refl in
     (f.taken (λ q. omega arith) ∙ same, same_rest (record { r = s.whole.r; d = s.whole.d }) t.whole (moved-sp f))
 
-done-of : (u : Undo) (s t : State) (after : Regs) → u ≢ Nothing → Sound u → Closing u s t → effect s.stack u s.regs ≡ ok after → after.sp < 2 ^ 32 → Done s t after
+done-of : (u : Undo) (s t : State) (after : Regs) → u ≢ Nothing → Sound u → Closing u s t → effect s.stack u s.regs ≡ Ok after → after.sp < 2 ^ 32 → Done s t after
 done-of (Up n) s t after k o f e m =
     let g : Regs = s.regs in
     let z : set_sp g (g.sp + stack_bytes n) ≡ after = ok_same _ _ e in

@@ -1,10 +1,10 @@
 -- Demand 3 of functions whose record fits: what was executed by the manual is what demand 3 asks.
 -- Assumes nothing.
+use Rattle.std.specs.Prelude.{Ok}
 use Prim.Native.Nat.{ℕ, ◌+◌, ◌%◌, ◌^◌, ◌≤◌, ◌<◌}
 use mathlib.Core.Path.{◌≡◌, refl, sym, ap, subst, ◌∙◌}
 use mathlib.Core.List.{List, [], ◌∷◌, ◌++◌, map-append}
 use Rattle.words.specs.declared.Place.{Place}
-use Rattle.words.specs.Answer.{ok}
 use Rattle.lent.specs.Lent.{Lent, end, word_at}
 use Rattle.unwinding.specs.CodeList.{total}
 use Rattle.unwinding.specs.Shape.{Shape}
@@ -43,7 +43,7 @@ fine_end [] undone h = h
 fine_end (c ∷ ahead) undone h = fine_end ahead undone h.1
 
 module _
-    (s : List ℕ) (x : Lent) (r : Entry) (sh : Shape) (v : View Coded) (e4 : shape_at x r.word ≡ ok sh) (e6 : view size_of coded_at sh ≡ ok v)
+    (s : List ℕ) (x : Lent) (r : Entry) (sh : Shape) (v : View Coded) (e4 : shape_at x r.word ≡ Ok sh) (e6 : view size_of coded_at sh ≡ Ok v)
     (stand : AllStand (items s sh.fragment v)) (fine : Fine (plain v.codes.list)) (entry : State) (al : entry.regs.sp % 4 ≡ 0)
   where
     abbrev bare : View Code

@@ -1,19 +1,19 @@
 -- The conditions of demand 3 of functions whose record fits can be met: functions that were entered with any registers and whose
 -- instructions were executed by the manual come to stand in their prologue, body and epilogue.
 -- Assumes nothing.
+use Rattle.std.specs.Prelude.{Ok, Option, Some}
 use Prim.Native.Nat.{ℕ, ◌+◌, ◌-◌, ◌%◌, ◌^◌, ◌≤◌, ◌<◌}
 use mathlib.Core.Path.{◌≡◌, refl, sym, ap, subst, ◌∙◌}
 use mathlib.Core.List.{List, [], ◌∷◌, ◌++◌}
 use mathlib.Core.Bool.{Bool, true, false}
 use mathlib.Core.Logic.{◌≢◌, inl}
-use mathlib.Core.Option.{Option, some}
 use lib.Dec.{eqb}
 use lib.ListN.{length, replicate}
 use native.Mathlib.Omega.{arith}
 use borrow.Author.Tests.{eqb-false}
 use Rattle.words.specs.Bits.{even}
 use Rattle.words.specs.Units.{halfwords}
-use Rattle.words.specs.Answer.{Res, ok, or_else}
+use Rattle.words.specs.Answer.{Res, or_else}
 use Rattle.words.specs.declared.Place.{Place}
 use Rattle.words.specs.declared.Place.TheVariants.{Prologue, Body, Epilogue}
 use Rattle.lent.specs.Lent.{Lent, end}
@@ -35,9 +35,7 @@ use Rattle.thumb.specs.declared.Action.{Action}
 use Rattle.thumb.specs.declared.Action.TheVariants.{Push, SubSp, AddSp, Mov}
 use Rattle.thumb.specs.declared.Instruction.{Instruction}
 use Rattle.comparing.specs.Items.{Coded, size_of, coded_at}
-use Rattle.fitting.specs.Fitting.{fitted}
-use Rattle.fitting.specs.declared.Fitted.{Fitted}
-use Rattle.fitting.specs.declared.Fitted.TheVariants.{Fits}
+use Rattle.fitting.specs.Fitting.{Fitted, fitted}
 use Rattle.fitting.proofs.Examples.{opened}
 use Rattle.forward.specs.Registers.{value, width}
 use Rattle.forward.specs.Saving.{RX, bytes}
@@ -171,7 +169,7 @@ sees k s o =
     (find t.image t.pdata pc, fitted t.xdata k.word s, shape_at t.xdata k.word, view size_of coded_at (shape k), even pc - t.image - (own k).start)
 
 abbrev Sees : Tables → List ℕ → ℕ → Type 0
-Sees k s o = sees k s o ≡ (ok (some (own k)), Fits, ok (shape k), ok (views k), o)
+Sees k s o = sees k s o ≡ (Ok (Some (own k)), Ok tt, Ok (shape k), Ok (views k), o)
 
 -- a function entered in a state comes to stand at an offset where these codes are left to undo, and the conditions hold
 pub record Reaches (s : List ℕ) (t : Inputs) (entry : State) (offset : ℕ) (p : Place) (undone : List Coded) : Type 0 where

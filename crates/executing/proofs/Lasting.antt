@@ -1,6 +1,6 @@
 -- The last instruction before FF does what its code does, and loads the pc where the code loads LR.
 -- Assumes nothing.
-use Rattle.std.specs.Prelude.{if◌then◌else◌}
+use Rattle.std.specs.Prelude.{if◌then◌else◌, Ok}
 use Prim.Native.Nat.{ℕ, ◌+◌, ◌/◌, ◌%◌, ◌^◌, ◌≤◌, ◌<◌}
 use mathlib.Core.Path.{◌≡◌, refl, sym, ap, subst, ◌∙◌}
 use mathlib.Core.Bool.{Bool, true, false}
@@ -12,7 +12,6 @@ use borrow.Author.Tests.{eqb-true}
 use Rattle.words.specs.Bits.{bit, bits, even}
 use Rattle.words.specs.Units.{stack_bytes}
 use Rattle.words.specs.declared.StackWords.{StackWords}
-use Rattle.words.specs.Answer.{ok}
 use Rattle.words.proofs.Answers.{bind_ok}
 use Rattle.lent.specs.Lent.{Lent, holds, word_at}
 use Rattle.codes.specs.declared.Undo.{Undo}
@@ -121,11 +120,11 @@ module _ (l : ℕ) (h : RegisterList l) (b : bit 14 l ≡ true) where
     loaded : Loaded k g (listed l 14) mid
     lr : LrLoaded k 4 mid after
 
-  parts : (k : Lent) (g after : Regs) → Whole g → pop k l 15 g ≡ ok after → Parts k g after
+  parts : (k : Lent) (g after : Regs) → Whole g → pop k l 15 g ≡ Ok after → Parts k g after
   unfolding pop pop_reg
   parts k g after w e =
       let a = bind_ok (pop k l 14 g) _ after e in
-      record { mid = a.0; loaded = loaded-list k l 14 g a.0 (list-no-sp l h) (omega arith) w a.1; lr = lr-loaded k 4 a.0 after (subst (λ t. (if t then pop_reg k 14 a.0 else ok a.0) ≡ ok after) b a.2) }
+      record { mid = a.0; loaded = loaded-list k l 14 g a.0 (list-no-sp l h) (omega arith) w a.1; lr = lr-loaded k 4 a.0 after (subst (λ t. (if t then pop_reg k 14 a.0 else Ok a.0) ≡ Ok after) b a.2) }
 
   returns-pop : (n : ℕ) (s t : State) → Acts (T.Pop swapped) s t → Next (T.Pop swapped) n s t → Low (Pop l) s → Returns (Pop l) s t
   returns-pop n s t f g low = record {
@@ -134,7 +133,7 @@ module _ (l : ℕ) (h : RegisterList l) (b : bit 14 l ≡ true) where
     stack = f.stack;
   }
     where
-      all : (after : Regs) → pop s.stack l 15 s.regs ≡ ok after → (t.regs.sp ≡ after.sp) × ((x : ℕ) → x ≢ 14 → value t.regs x ≡ value after x) × (t.regs.pc ≡ even after.lr)
+      all : (after : Regs) → pop s.stack l 15 s.regs ≡ Ok after → (t.regs.sp ≡ after.sp) × ((x : ℕ) → x ≢ 14 → value t.regs x ≡ value after x) × (t.regs.pc ≡ even after.lr)
       all after e = let p = parts s.stack s.regs after s.whole e in lr-to-pc 4 (listed l 14) s t p.mid after (popped-pc n s t f g) p.loaded p.lr (low after e)
 
 -- ---- a load of LR
@@ -160,7 +159,7 @@ returns-lr n s t f low = record {
 }
   where
     all :
-        (after : Regs) → effect s.stack (LoadLr n) s.regs ≡ ok after
+        (after : Regs) → effect s.stack (LoadLr n) s.regs ≡ Ok after
         → (t.regs.sp ≡ after.sp) × ((x : ℕ) → x ≢ 14 → value t.regs x ≡ value after x) × (t.regs.pc ≡ even after.lr)
     all after e =
         lr-to-pc (stack_bytes n) [] s t s.regs after f (loaded-none s.stack s.regs s.whole) (lr-loaded s.stack (stack_bytes n) s.regs after e) (low after e)

@@ -1,7 +1,7 @@
 -- Registers loaded one after the other, by the machine's own steps, where each word was lent: whoever has those words and keeps all else has
 -- the same registers.
 -- Assumes nothing.
-use Rattle.std.specs.Prelude.{if◌then◌else◌}
+use Rattle.std.specs.Prelude.{if◌then◌else◌, Ok}
 use Prim.Native.Nat.{ℕ, zero, suc, ◌+◌, ◌*◌, ◌^◌, ◌≤◌, ◌<◌}
 use mathlib.Core.Path.{◌≡◌, refl, sym, ap, subst, ◌∙◌}
 use mathlib.Core.Bool.{Bool, true, false}
@@ -11,7 +11,6 @@ use lib.Dec.{ltb}
 use native.Mathlib.Omega.{arith}
 use borrow.Author.Tests.{lt-ltb, le-ltb}
 use Rattle.words.specs.Bits.{bit}
-use Rattle.words.specs.Answer.{ok}
 use Rattle.words.proofs.Answers.{bind_ok, ok_same}
 use Rattle.lent.specs.Lent.{Lent, end, holds, word_at}
 use Rattle.machine.specs.Registers.{set_reg, set_d, set_sp}
@@ -78,12 +77,12 @@ module _ (k : Lent) where
     pub high : a + 4 ≤ end k
     pub is : w ≡ word_at k a
 
-  pub loaded_word : (a w : ℕ) → load k a ≡ ok w → Word a w
+  pub loaded_word : (a w : ℕ) → load k a ≡ Ok w → Word a w
   loaded_word a w e =
       let i = load_inside k a w e in
       record { low = i.0; high = i.1; is = ok_same w (word_at k a) (sym e ∙ load-held k a (holding k a 4 i.0 i.1)) }
 
-  pub loaded-reg : (x : ℕ) (g h : Regs) → x < 15 → x ≢ 13 → Whole g → pop_reg k x g ≡ ok h → Loaded g (x ∷ []) h
+  pub loaded-reg : (x : ℕ) (g h : Regs) → x < 15 → x ≢ 13 → Whole g → pop_reg k x g ≡ Ok h → Loaded g (x ∷ []) h
   unfolding pop_reg
   loaded-reg x g h l n w e =
       let a = bind_ok (load k g.sp) _ h e in
@@ -97,7 +96,7 @@ module _ (k : Lent) where
       (rw wide refl)
       (value-reg g x a.0 w l n ∙ ap (upd (value g) x) (sym word)))
 
-  loaded-d : (x : ℕ) (g h : Regs) → x < 32 → Whole g → pop_d k x g ≡ ok h → Loaded g ((16 + x) ∷ []) h
+  loaded-d : (x : ℕ) (g h : Regs) → x < 32 → Whole g → pop_d k x g ≡ Ok h → Loaded g ((16 + x) ∷ []) h
   unfolding pop_d
   loaded-d x g h l w e =
       let a = bind_ok (load k g.sp) _ h e in
@@ -114,11 +113,11 @@ module _ (k : Lent) where
       (rw wide refl)
       (value-d g x d w l ∙ ap (upd (value g) (16 + x)) (sym word)))
 
-  loaded-if : (t : Bool) (n : ℕ) (g h : Regs) → n < 15 → (t ≡ true → n ≢ 13) → Whole g → (if t then pop_reg k n g else ok g) ≡ ok h → Loaded g (if t then n ∷ [] else []) h
+  loaded-if : (t : Bool) (n : ℕ) (g h : Regs) → n < 15 → (t ≡ true → n ≢ 13) → Whole g → (if t then pop_reg k n g else Ok g) ≡ Ok h → Loaded g (if t then n ∷ [] else []) h
   loaded-if true n g h l q w e = loaded-reg n g h l (q refl) w e
   loaded-if false n g h l q w e = subst (Loaded g []) (ok_same g h e) (loaded-none g w)
 
-  pub loaded-list : (l n : ℕ) (g h : Regs) → bit 13 l ≡ false → n ≤ 15 → Whole g → pop k l n g ≡ ok h → Loaded g (listed l n) h
+  pub loaded-list : (l n : ℕ) (g h : Regs) → bit 13 l ≡ false → n ≤ 15 → Whole g → pop k l n g ≡ Ok h → Loaded g (listed l n) h
   unfolding pop
   loaded-list l zero g h b m w e = subst (Loaded g []) (ok_same g h e) (loaded-none g w)
   loaded-list l (suc n) g h b m w e =
@@ -127,7 +126,7 @@ module _ (k : Lent) where
       loaded-then (listed l n) (if bit n l then n ∷ [] else []) p
       (loaded-if (bit n l) n a.0 h (omega arith) (λ t q. let z : ◌≡◌ {A = ℕ} 0 1 = cc (ap (λ i. bit i l) q) in omega arith) p.whole a.2)
 
-  pub loaded-up : (x n : ℕ) (g h : Regs) → ((i : ℕ) → i < n → x + i < 32) → Whole g → vpop k x n g ≡ ok h → Loaded g (upward (16 + x) n) h
+  pub loaded-up : (x n : ℕ) (g h : Regs) → ((i : ℕ) → i < n → x + i < 32) → Whole g → vpop k x n g ≡ Ok h → Loaded g (upward (16 + x) n) h
   unfolding vpop
   loaded-up x zero g h b w e = subst (Loaded g []) (ok_same g h e) (loaded-none g w)
   loaded-up x (suc n) g h b w e =

@@ -1,6 +1,6 @@
 -- Of a record that fits, each instruction is the one of its code: of each part of its prologue and of each epilogue. Its view without first bytes.
 -- Assumes nothing.
-use Rattle.std.specs.Prelude.{if◌then◌else◌}
+use Rattle.std.specs.Prelude.{if◌then◌else◌, Ok}
 use Prim.Native.Nat.{ℕ, ◌+◌, ◌<◌}
 use mathlib.Core.Path.{◌≡◌, refl, sym, ap, ap₂, subst, ◌∙◌}
 use mathlib.Core.Bool.{Bool, true, false}
@@ -9,7 +9,6 @@ use native.Mathlib.Omega.{arith}
 use borrow.Author.Tests.{ne_eqb}
 use Rattle.words.specs.Units.{code_bytes}
 use Rattle.words.specs.declared.Refusal.TheVariants.{BadLayout}
-use Rattle.words.specs.Answer.{ok}
 use Rattle.words.proofs.Answers.{bind_ok, need-ok, ok_same}
 use Rattle.lent.specs.Lent.{Lent}
 use Rattle.unwinding.specs.CodeList.{total}
@@ -25,7 +24,6 @@ use Rattle.comparing.specs.Items.{Coded, size_of, coded_at, Item, opens, item, i
 use Rattle.comparing.proofs.Scanning.{view-coded}
 use Rattle.fitting.specs.Exactly.{Stands, AllStand}
 use Rattle.fitting.specs.Fitting.{epilogues_items, items, fitted}
-use Rattle.fitting.specs.declared.Fitted.TheVariants.{Fits}
 use Rattle.fitting.proofs.Exact.{exactly}
 use Rattle.executing.specs.Executed.{code_of}
 
@@ -43,7 +41,7 @@ pub record Fitting (x : Lent) (s : List ℕ) (sh : Shape) (v : View Coded) : Typ
 
 -- there is but one shape and one view
 pub fitting :
-    (x : Lent) (w : ℕ) (s : List ℕ) (sh : Shape) (v : View Coded) → fitted x w s ≡ Fits → shape_at x w ≡ ok sh → view size_of coded_at sh ≡ ok v
+    (x : Lent) (w : ℕ) (s : List ℕ) (sh : Shape) (v : View Coded) → fitted x w s ≡ Ok tt → shape_at x w ≡ Ok sh → view size_of coded_at sh ≡ Ok v
     → Fitting x s sh v
 fitting x w s sh v h e f =
     let p = (exactly x w s).passes.0 h in
@@ -89,7 +87,7 @@ not_last [] n e h = ne_eqb e 0 (λ (q : e ≡ 0). omega arith)
 not_last (c ∷ l) n e h = refl
 
 -- ---- without first bytes
-pub view-plain : (sh : Shape) (v : View Coded) → view size_of coded_at sh ≡ ok v → view size codes_at sh ≡ ok (view_of code_of v)
+pub view-plain : (sh : Shape) (v : View Coded) → view size_of coded_at sh ≡ Ok v → view size codes_at sh ≡ Ok (view_of code_of v)
 view-plain sh v e = sym (view-coded sh) ∙ ap (mapped (view_of code_of)) e
 
 pub of_plain :
@@ -103,13 +101,13 @@ none-plain o [] h = tt
 none-plain o (ex ∷ exs) h = (h.0, none-plain o exs h.1)
 
 -- a fragment has no prologue
-pub no-prologue : (sh : Shape) (v : View Coded) (o : ℕ) → view size_of coded_at sh ≡ ok v → o < v.prologue → sh.fragment ≡ false
+pub no-prologue : (sh : Shape) (v : View Coded) (o : ℕ) → view size_of coded_at sh ≡ Ok v → o < v.prologue → sh.fragment ≡ false
 unfolding view
 no-prologue sh v o h l =
     let a = bind_ok (coded_at sh.codes (code_bytes 0)) _ v h in
     let b = bind_ok (epilogues size_of coded_at sh sh.scopes) _ v a.2 in
     let p : ℕ = if sh.fragment then 0 else total size_of a.0.list in
-    let c = need-ok (fits sh.span p b.0) BadLayout (ok (record { codes = a.0; prologue = p; epilogues = b.0 })) v b.2 in
+    let c = need-ok (fits sh.span p b.0) BadLayout (Ok (record { codes = a.0; prologue = p; epilogues = b.0 })) v b.2 in
     let e : p ≡ v.prologue = ap (λ (y : View Coded). y.prologue) (ok_same _ _ c.1) in
     go sh.fragment (total size_of a.0.list) (omega (arith, e))
   where

@@ -1,5 +1,6 @@
 -- What is known of a code that was read from code bytes: it is one of the table's, and that of the byte 04 lowers SP by four words.
 -- Assumes nothing.
+use Rattle.std.specs.Prelude.{Ok}
 use Prim.Native.Nat.{ℕ}
 use mathlib.Core.Path.{◌≡◌, sym, ap, subst, ◌∙◌}
 use mathlib.Core.List.{List, [], ◌∷◌}
@@ -7,7 +8,6 @@ use lib.ListN.{drop, get_or, take}
 use native.Mathlib.Omega.{arith}
 use Rattle.words.specs.declared.CodeBytes.{CodeBytes}
 use Rattle.words.specs.declared.StackWords.{StackWords}
-use Rattle.words.specs.Answer.{ok}
 use Rattle.unwinding.specs.CodeList.{Codes}
 use Rattle.unwinding.specs.Taking.{Taken, Scan, one, last, bad}
 use Rattle.unwinding.proofs.All.{All}
@@ -51,7 +51,7 @@ known-taken at l c next e =
     }
 
 -- each code of a list
-pub codes-known : (s : List ℕ) (i : CodeBytes) (c : Codes Coded) → coded_at s i ≡ ok c → All Known c.list
+pub codes-known : (s : List ℕ) (i : CodeBytes) (c : Codes Coded) → coded_at s i ≡ Ok c → All Known c.list
 codes-known s = codes_all takes-coded Known s (λ j c next e. known-taken j (drop j s) c next e)
 
 all_in : (c : Coded) (l : List Coded) → All Known l → In c l → Known c

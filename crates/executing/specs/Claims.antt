@@ -1,7 +1,6 @@
 -- What passing means (RULES 13.15, 13.17): of one instruction that is the one of its code, and of a function whose record fits.
-use Rattle.std.specs.Prelude.{ℕ, ◌+◌, ◌^◌, ◌≤◌, ◌<◌, ◌≡◌, ◌≢◌, List, ◌∷◌, true, false}
+use Rattle.std.specs.Prelude.{ℕ, ◌+◌, ◌^◌, ◌≤◌, ◌<◌, ◌≡◌, ◌≢◌, List, ◌∷◌, true, false, Ok}
 use Rattle.words.specs.Bits.{bit, even}
-use Rattle.words.specs.Answer.{ok}
 use Rattle.words.specs.declared.CodeBytes.{CodeBytes}
 use Rattle.lent.specs.Lent.{end}
 use Rattle.codes.specs.declared.Code.{Code}
@@ -47,7 +46,7 @@ Opens =
 
 -- the SP that a code leaves has 32 bits
 abbrev pub Low : Undo → State → Type 0
-Low u a = (after : Regs) → effect a.stack u a.regs ≡ ok after → after.sp < 2 ^ 32
+Low u a = (after : Regs) → effect a.stack u a.regs ≡ Ok after → after.sp < 2 ^ 32
 
 -- that of an epilogue does what its code does
 abbrev pub Closes : Type 0
@@ -67,8 +66,8 @@ LoadsLr Nothing = ⊥
 
 -- the last before FF does what its code does, but what the code loads into LR goes to the pc, bit 0 cleared
 pub record Returns (u : Undo) (a b : State) : Type 0 where
-  pub does : (after : Regs) → effect a.stack u a.regs ≡ ok after → (b.regs.sp ≡ after.sp) × ((x : ℕ) → x ≢ 14 → value b.regs x ≡ value after x)
-  pub pc : LoadsLr u → (after : Regs) → effect a.stack u a.regs ≡ ok after → b.regs.pc ≡ even after.lr
+  pub does : (after : Regs) → effect a.stack u a.regs ≡ Ok after → (b.regs.sp ≡ after.sp) × ((x : ℕ) → x ≢ 14 → value b.regs x ≡ value after x)
+  pub pc : LoadsLr u → (after : Regs) → effect a.stack u a.regs ≡ Ok after → b.regs.pc ≡ even after.lr
   pub stack : b.stack ≡ a.stack
 
 abbrev pub Lasts : Type 0

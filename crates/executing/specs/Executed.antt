@@ -1,9 +1,7 @@
 -- A function whose record fits its bytes, entered in a state and stopped (RULES 13.16). Its prologue and epilogue did what the instructions in its
 -- bytes do by the manual. Nops, the body and the list of codes keep what demand 3 asks of them; nothing else is asked.
-use Rattle.std.specs.Prelude.{ℕ, ◌+◌, ◌-◌, ◌%◌, ◌≤◌, ◌<◌, ◌≡◌, List, [], ◌∷◌, ◌++◌, map, Bool, true, false}
-use Rattle.std.proofs.Math.Option.{some}
+use Rattle.std.specs.Prelude.{ℕ, ◌+◌, ◌-◌, ◌%◌, ◌≤◌, ◌<◌, ◌≡◌, List, [], ◌∷◌, ◌++◌, map, Bool, true, false, Some, Ok}
 use Rattle.words.specs.Bits.{even}
-use Rattle.words.specs.Answer.{ok}
 use Rattle.words.specs.declared.Place.{Place}
 use Rattle.words.specs.declared.Place.TheVariants.{Prologue, Body, Epilogue}
 use Rattle.lent.specs.Lent.{end}
@@ -24,7 +22,6 @@ use Rattle.frame.specs.Frame.{Inputs, fit_stack}
 use Rattle.thumb.specs.Instruction.{instruction_at}
 use Rattle.comparing.specs.Items.{Coded, size_of, coded_at}
 use Rattle.fitting.specs.Fitting.{fitted}
-use Rattle.fitting.specs.declared.Fitted.TheVariants.{Fits}
 use Rattle.forward.specs.Saving.{RX}
 use Rattle.forward.specs.State.{State}
 use Rattle.forward.specs.Prologue.{Rests, Done}
@@ -119,12 +116,12 @@ module _ (s : List ℕ) where
   pub record Executed (t : Inputs) (entry now : State) : Type 0 where
     pub passes1 : fit_stack t.stack ≡ true
     pub own : Entry
-    pub found : find t.image t.pdata now.regs.pc ≡ ok (some own)
-    pub fits : fitted t.xdata own.word s ≡ Fits
+    pub found : find t.image t.pdata now.regs.pc ≡ Ok (Some own)
+    pub fits : fitted t.xdata own.word s ≡ Ok tt
     pub shape : Shape
-    pub passes4-5 : shape_at t.xdata own.word ≡ ok shape
+    pub passes4-5 : shape_at t.xdata own.word ≡ Ok shape
     pub view : View Coded
-    pub passes6-7 : Views.view size_of coded_at shape ≡ ok view
+    pub passes6-7 : Views.view size_of coded_at shape ≡ Ok view
     pub fine : Fine (plain view.codes.list)
     pub offset : ℕ
     pub here : offset ≡ even now.regs.pc - t.image - own.start

@@ -8,7 +8,7 @@ use Rattle.codes.specs.declared.Undo.TheVariants as U
 use Rattle.thumb.specs.declared.Action.{Action}
 use Rattle.thumb.specs.declared.Action.TheVariants.{Push, Pop, Vpush, Vpop, SubSp, AddSp, Mov, Store, Load, Bx, Branch}
 use Rattle.thumb.specs.declared.Instruction.{Instruction}
-use Rattle.expected.specs.Same.{same}
+use Rattle.thumb.specs.contracts.ActionPartialEq.TheImpl as Equality
 use Rattle.expected.specs.declared.Acts.{Acts}
 use Rattle.expected.specs.declared.Acts.TheVariants.{Any, This, OrHome}
 use Rattle.expected.specs.declared.Expected.{Expected}
@@ -80,6 +80,10 @@ after last c = record { acts = acts_after last c.undo; size = c.size }
 -- by the size of an end code's instruction: bx lr for FD, b for FE
 abbrev pub ending : (size : ℕ) → Expected
 ending n = if eqb n 2 then record { acts = This (Bx lr); size = halfwords 1 } else record { acts = This Branch; size = halfwords 2 }
+
+-- what `==` answers of two instructions: that they are equal (laws `same-equal`, `equal-same` of proofs/Equal.antt)
+unfoldable pub same : Action → Action → Bool
+same = (Equality.ghosts).eq
 
 -- push {r0-r3}
 abbrev pub home : Action

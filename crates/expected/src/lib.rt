@@ -5,7 +5,6 @@
 ghost use Rattle.std.specs.Prelude.{◌≡◌, ◌^◌, ◌<◌};
 ghost use Rattle.words.specs.Units.{halfword_bytes};
 ghost use Rattle.expected.specs.Expected as E;
-ghost use Rattle.expected.specs.Same as S;
 
 use codes::{Code, Undo};
 use thumb::{Action, Instruction};
@@ -27,77 +26,6 @@ pub enum Acts {
 pub struct Expected {
     pub acts: Acts,
     pub size: Halfwords,
-}
-
-// The kind of what an instruction does, as a number, and the numbers that go with it.
-fn kind_of(a: Action) -> u32
-    ensures { result ≡ S.kind_of a }
-{
-    match a {
-        Action::Push(_) => 0,
-        Action::Pop(_) => 1,
-        Action::Vpush(_, _) => 2,
-        Action::Vpop(_, _) => 3,
-        Action::SubSp(_) => 4,
-        Action::AddSp(_) => 5,
-        Action::Mov(_, _) => 6,
-        Action::Store(_, _) => 7,
-        Action::Load(_, _) => 8,
-        Action::Bx(_) => 9,
-        Action::Branch => 10,
-        Action::Other => 11,
-    }
-}
-
-fn first_of(a: Action) -> u64
-    ensures { result ≡ S.first_of a }
-{
-    match a {
-        Action::Push(l) => l as u64,
-        Action::Pop(l) => l as u64,
-        Action::Vpush(s, _) => s as u64,
-        Action::Vpop(s, _) => s as u64,
-        Action::SubSp(n) => n,
-        Action::AddSp(n) => n,
-        Action::Mov(d, _) => d as u64,
-        Action::Store(t, _) => t as u64,
-        Action::Load(t, _) => t as u64,
-        Action::Bx(m) => m as u64,
-        Action::Branch => 0,
-        Action::Other => 0,
-    }
-}
-
-fn second_of(a: Action) -> u64
-    ensures { result ≡ S.second_of a }
-{
-    match a {
-        Action::Push(_) => 0,
-        Action::Pop(_) => 0,
-        Action::Vpush(_, e) => e as u64,
-        Action::Vpop(_, e) => e as u64,
-        Action::SubSp(_) => 0,
-        Action::AddSp(_) => 0,
-        Action::Mov(_, m) => m as u64,
-        Action::Store(_, n) => n,
-        Action::Load(_, n) => n,
-        Action::Bx(_) => 0,
-        Action::Branch => 0,
-        Action::Other => 0,
-    }
-}
-
-// Whether two instructions do the same.
-fn same(a: Action, b: Action) -> bool
-    ensures { result ≡ S.same a b }
-{
-    if kind_of(a) != kind_of(b) {
-        return false;
-    }
-    if first_of(a) != first_of(b) {
-        return false;
-    }
-    second_of(a) == second_of(b)
 }
 
 // A store of LR below SP: of one word it is a push.
@@ -227,13 +155,8 @@ fn allows(acts: Acts, a: Action) -> bool
 {
     match acts {
         Acts::Any => true,
-        Acts::This(b) => same(a, b),
-        Acts::OrHome(b) => {
-            if same(a, b) {
-                return true;
-            }
-            same(a, Action::Push(15))
-        }
+        Acts::This(b) => a == b,
+        Acts::OrHome(b) => a == b || a == Action::Push(15),
     }
 }
 

@@ -4,17 +4,16 @@
 
 ghost use Rattle.std.specs.Prelude.{◌≡◌, length};
 ghost use Rattle.lent.specs.Lent.{lent};
-ghost use Rattle.pdata.specs.Pdata.{find, found};
-ghost use Rattle.xdata.specs.Xdata.{xdata_size as spec_xdata_size, size_answer};
-ghost use Rattle.packed.specs.Packed.{write_word as spec_write_word, word_answer};
-ghost use Rattle.packed_codes.specs.PackedCodes.{write_codes as spec_write_codes, codes_answer};
+ghost use Rattle.pdata.specs.Pdata.{find};
+ghost use Rattle.xdata.specs.Xdata.{xdata_size as spec_xdata_size};
+ghost use Rattle.packed.specs.Packed.{write_word as spec_write_word};
+ghost use Rattle.packed_codes.specs.PackedCodes.{write_codes as spec_write_codes};
 ghost use Rattle.text.specs.Overlay.{overlay};
 ghost use Rattle.listing.specs.Listing.{listing};
 ghost use Rattle.caller_text.specs.CallerText.{caller_text as spec_caller_text};
-ghost use Rattle.exports.specs.Numbers.{found_numbers, found_refusal, fields_in as spec_fields_in, FoundTold, SizeTold, WordTold, CodesTold};
+ghost use Rattle.exports.specs.Numbers.{fields_in as spec_fields_in, FoundTold, SizeTold, WordTold, CodesTold};
 
 use packed::Packed;
-use pdata::Found;
 use words::Halfwords;
 
 // A report's bytes in, the text that `walk` or `caller` prints into a lent buffer. The result is the text's length; what does not fit the
@@ -37,50 +36,33 @@ pub fn leafbobbin_caller(report: &[u8], out: &mut [u8]) -> usize
 // The operations on tables (RULES 8.12): the result is the refusal's number, 0 if there is none, and the answer goes into what is lent,
 // 0 if it is refused.
 
-// What finding tells a C program.
-#[derive(Clone, Copy)]
-struct Told {
-    refusal: u32,
-    record: [u64; 4],
-}
-
-fn tell(f: Found) -> Told
-    ensures { (result.refusal ≡ found_refusal f) × (result.record ≡ found_numbers f) }
-{
-    match f {
-        Found::Record(e) => Told {
-            refusal: 0,
-            record: [1, e.number as u64, e.start as u64, e.word as u64],
-        },
-        Found::Nothing => Told {
-            refusal: 0,
-            record: [0u64; 4],
-        },
-        Found::Refused(why) => Told {
-            refusal: words::number(why),
-            record: [0u64; 4],
-        },
-    }
-}
-
 // The record of a pc: 1, its number, its start and its word; 0 four times if there is none.
 pub fn leafbobbin_find(image: u32, pdata: &[u8], pc: u32, out: &mut [u64; 4]) -> u32
-    ensures { FoundTold (found (find image pdata.now pc)) result out.new }
+    ensures { FoundTold (find image pdata.now pc) result out.new }
 {
-    let t = tell(pdata::find(image, pdata, pc));
-    let record = t.record;
-    *out = record;
-    t.refusal
+    match pdata::find(image, pdata, pc) {
+        Ok(Some(e)) => {
+            *out = [1, e.number as u64, e.start as u64, e.word as u64];
+            0
+        }
+        Ok(None) => {
+            *out = [0u64; 4];
+            0
+        }
+        Err(why) => {
+            *out = [0u64; 4];
+            words::number(why)
+        }
+    }
 }
 
 // The bytes of the .xdata record at an RVA (RULES 2.13).
 pub fn leafbobbin_size(rva: u32, xdata: &[u8], at: u32, bytes: &mut u32) -> u32
-    ensures { SizeTold (size_answer (spec_xdata_size (lent rva xdata.now) at)) result bytes.new }
+    ensures { SizeTold (spec_xdata_size (lent rva xdata.now) at) result bytes.new }
 {
     let size = xdata::xdata_size(rva, xdata, at);
-    *bytes = size.bytes;
-    let verdict = size.verdict;
-    words::verdict_number(verdict)
+    *bytes = size.unwrap_or(0);
+    words::verdict_number(size)
 }
 
 // Nine fields: Flag, length / 2, Ret, H, Reg, R, L, C, Stack Adjust.
@@ -102,24 +84,28 @@ fn fields_in(fields: &[u32; 9]) -> Packed
 
 // The packed word of nine fields (RULES 4.18).
 pub fn leafbobbin_word(fields: &[u32; 9], word: &mut u32) -> u32
-    ensures { WordTold (word_answer (spec_write_word (spec_fields_in fields.now))) result word.new }
+    ensures { WordTold (spec_write_word (spec_fields_in fields.now)) result word.new }
 {
     let written = packed::write_word(fields_in(fields));
-    *word = written.word;
-    let verdict = written.verdict;
-    words::verdict_number(verdict)
+    *word = written.unwrap_or(0);
+    words::verdict_number(written)
 }
 
 // The 16 code bytes of a packed word, and how many of them each of its lists has (RULES 4.19).
 pub fn leafbobbin_codes(word: u32, bytes: &mut [u8; 16], lens: &mut [usize; 2]) -> u32
-    ensures { CodesTold (codes_answer (spec_write_codes word)) result bytes.new lens.new }
+    ensures { CodesTold (spec_write_codes word) result bytes.new lens.new }
 {
-    let codes = packed_codes::write_codes(word);
-    let list = codes.bytes;
-    *bytes = list;
-    let first = codes.first;
-    let second = codes.second;
-    *lens = [first.0, second.0];
-    let verdict = codes.verdict;
-    words::verdict_number(verdict)
+    match packed_codes::write_codes(word) {
+        Ok(codes) => {
+            let list = codes.bytes;
+            *bytes = list;
+            *lens = [codes.first.0, codes.second.0];
+            0
+        }
+        Err(why) => {
+            *bytes = [0u8; 16];
+            *lens = [0usize; 2];
+            words::number(why)
+        }
+    }
 }

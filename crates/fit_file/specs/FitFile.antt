@@ -1,7 +1,7 @@
 -- The FIT file: a mark and four words, then a function's .xdata and its code, which end with the file (RULES 13.11).
-use Rattle.std.specs.Prelude.{ℕ, ◌+◌, ◌*◌, List, [], ◌∷◌, ◌&&◌, length, take, leb, eqb}
+use Rattle.std.specs.Prelude.{ℕ, ◌+◌, ◌*◌, List, [], ◌∷◌, ◌&&◌, length, take, leb, eqb, Ok}
 use Rattle.words.specs.declared.Refusal.TheVariants.{UnfitReport}
-use Rattle.words.specs.Answer.{Res, ok, ◌>>◌, need}
+use Rattle.words.specs.Answer.{Res, ◌>>◌, need}
 use Rattle.lent.specs.Little.{word32}
 use Rattle.lent.specs.Lent.{Lent, lent}
 use Rattle.lent.specs.Parts.{same, part}
@@ -50,4 +50,4 @@ fit_file s = do
   need (leb head_bytes (length s) && leb (length s) 1048576) UnfitReport
   need (same (take 8 s) mark) UnfitReport
   need (eqb (length s) (end_at s)) UnfitReport
-  ok (fit_of s)
+  Ok (fit_of s)

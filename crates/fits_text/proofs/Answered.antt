@@ -1,22 +1,20 @@
 -- What the text of a FIT file comes to, by what was read; and that it is short.
 -- Assumes nothing.
+use Rattle.std.specs.Prelude.{Ok, Err}
 use Prim.Native.Nat.{ℕ, ◌≤◌}
 use mathlib.Core.Path.{◌≡◌, refl, ap}
 use mathlib.Core.List.{List, ◌++◌}
 use lib.ListN.{length, length-append}
 use native.Mathlib.Omega.{arith}
 use Rattle.words.specs.declared.Refusal.{Refusal}
-use Rattle.words.specs.Answer.{ok, refuse}
 use Rattle.words.specs.Refusals.{number}
 use Rattle.text.specs.Text.{text, hex8}
 use Rattle.text.specs.Overlay.{overlay, Laid}
 use Rattle.text.proofs.Overlaid.{from_start, laid_as}
 use Rattle.text.proofs.Numbers.{decimal-limit, decimal-small, hex8-length}
-use Rattle.fitting.specs.Fitting.{fitted}
+use Rattle.fitting.specs.Fitting.{Fitted, fitted}
 use Rattle.fitting.specs.declared.FitRefusal.{FitRefusal}
 use Rattle.fitting.specs.declared.FitRefusal.TheVariants.{Record, Short, Differs}
-use Rattle.fitting.specs.declared.Fitted.{Fitted}
-use Rattle.fitting.specs.declared.Fitted.TheVariants.{Fits, Refused}
 use Rattle.fit_file.specs.FitFile.{FitFile, fit_file}
 use Rattle.fits_text.specs.FitsText.{number_text, refusal_text, answer_text, file_fitted, fits_text}
 
@@ -31,19 +29,19 @@ pub differs-text : {f : FitRefusal} {o : ℕ} → f ≡ Differs o → number_tex
 differs-text e = rw e refl
 
 -- the answer, by what was read
-pub fitted-given : (s : List ℕ) {f : FitFile} → fit_file s ≡ ok f → fitted f.xdata f.word f.code ≡ file_fitted s
+pub fitted-given : (s : List ℕ) {f : FitFile} → fit_file s ≡ Ok f → fitted f.xdata f.word f.code ≡ file_fitted s
 unfolding file_fitted
 fitted-given s e = rw e refl
 
-pub fitted-refused : (s : List ℕ) {r : Refusal} → fit_file s ≡ refuse r → Refused (Record r) ≡ file_fitted s
+pub fitted-refused : (s : List ℕ) {r : Refusal} → fit_file s ≡ Err r → Err (Record r) ≡ file_fitted s
 unfolding file_fitted
 fitted-refused s e = rw e refl
 
 answer-length : (f : Fitted) → length (answer_text f) ≤ 31
-answer-length Fits = omega arith
-answer-length (Refused (Record r)) = simp length-append (omega (arith, decimal-limit (number r)))
-answer-length (Refused Short) = simp length-append (omega (arith, decimal-limit 18))
-answer-length (Refused (Differs o)) = simp length-append (omega (arith, decimal-small 17 (omega arith), hex8-length o))
+answer-length (Ok u) = omega arith
+answer-length (Err (Record r)) = simp length-append (omega (arith, decimal-limit (number r)))
+answer-length (Err Short) = simp length-append (omega (arith, decimal-limit 18))
+answer-length (Err (Differs o)) = simp length-append (omega (arith, decimal-small 17 (omega arith), hex8-length o))
 
 -- a line laid from the buffer's start, as the contract says it
 pub shown :

@@ -3,14 +3,12 @@
 --   fits
 --   refused 14
 --   refused 17 at 00000004
-use Rattle.std.specs.Prelude.{ℕ, List, ◌++◌}
+use Rattle.std.specs.Prelude.{ℕ, List, ◌++◌, Ok, Err}
 use Rattle.words.specs.Answer.{either}
 use Rattle.text.specs.Text.{text, decimal, hex8}
-use Rattle.fitting.specs.Fitting.{fit_number, fitted}
+use Rattle.fitting.specs.Fitting.{fit_number, Fitted, fitted}
 use Rattle.fitting.specs.declared.FitRefusal.{FitRefusal}
 use Rattle.fitting.specs.declared.FitRefusal.TheVariants.{Record, Short, Differs}
-use Rattle.fitting.specs.declared.Fitted.{Fitted}
-use Rattle.fitting.specs.declared.Fitted.TheVariants.{Fits, Refused}
 use Rattle.fit_file.specs.FitFile.{fit_file}
 
 abbrev pub number_text : FitRefusal → List ℕ
@@ -23,12 +21,12 @@ refusal_text Short = number_text Short
 refusal_text (Differs o) = number_text (Differs o) ++ text " at " ++ hex8 o
 
 abbrev pub answer_text : Fitted → List ℕ
-answer_text Fits = text "fits"
-answer_text (Refused r) = refusal_text r
+answer_text (Ok u) = text "fits"
+answer_text (Err r) = refusal_text r
 
 -- 14 before all others
 unfoldable pub file_fitted : List ℕ → Fitted
-file_fitted s = either (fit_file s) (λ r. Refused (Record r)) (λ f. fitted f.xdata f.word f.code)
+file_fitted s = either (fit_file s) (λ r. Err (Record r)) (λ f. fitted f.xdata f.word f.code)
 
 -- a file's bytes in, the text out
 unfoldable pub fits_text : List ℕ → List ℕ

@@ -11,9 +11,8 @@ ghost use Rattle.fit_file.specs.AsCoded.Parts.{Lie};
 ghost use Rattle.fits_text.specs.FitsText.{number_text, refusal_text, answer_text, file_fitted, fits_text as spec_fits_text};
 
 use fit_file::{FitParts, read_fit};
-use fitting::{FitRefusal, Fitted};
+use fitting::FitRefusal;
 use text::{put_byte, put_count, put_hex8, put_text};
-use words::Verdict;
 
 // The largest text.
 pub const FITS_BYTES: usize = 32;
@@ -47,17 +46,17 @@ fn put_refusal(out: &mut [u8], refusal: FitRefusal) -> usize
 }
 
 // The line without its end.
-fn put_answer(out: &mut [u8], answer: Fitted) -> usize
+fn put_answer(out: &mut [u8], answer: Result<(), FitRefusal>) -> usize
     ensures { Laid out.old 0 (answer_text answer) result out.new }
 {
     match answer {
-        Fitted::Fits => put_text(out, 0, b"fits"),
-        Fitted::Refused(refusal) => put_refusal(out, refusal),
+        Ok(()) => put_text(out, 0, b"fits"),
+        Err(refusal) => put_refusal(out, refusal),
     }
 }
 
 // Whether the record of a file's parts fits their code.
-fn check_parts(file: &[u8], p: FitParts) -> Fitted
+fn check_parts(file: &[u8], p: FitParts) -> Result<(), FitRefusal>
     requires { Lie file.now p }
     ensures { result ≡ fitted (lent p.rva (between file.now p.xdata p.code)) p.word (between file.now p.code p.end) }
 {
@@ -68,15 +67,10 @@ fn check_parts(file: &[u8], p: FitParts) -> Fitted
 }
 
 // The same of a file, or 14.
-fn check_file(file: &[u8]) -> Fitted
+fn check_file(file: &[u8]) -> Result<(), FitRefusal>
     ensures { result ≡ file_fitted file.now }
 {
-    let p = read_fit(file);
-    let verdict = p.verdict;
-    match verdict {
-        Verdict::Given => check_parts(file, p),
-        Verdict::Refused(why) => Fitted::Refused(FitRefusal::Record(why)),
-    }
+    check_parts(file, read_fit(file)?)
 }
 
 // The text of a FIT file, of which no more than FITS_BYTES are ever needed.

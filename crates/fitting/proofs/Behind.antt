@@ -1,6 +1,6 @@
 -- Code behind the function is not looked at: with more of it the answer is the same, unless there was too little.
 -- Assumes nothing.
-use Rattle.std.specs.Prelude.{if◌then◌else◌}
+use Rattle.std.specs.Prelude.{if◌then◌else◌, Err}
 use Prim.Native.Nat.{ℕ, ◌+◌, ◌*◌, ◌^◌, ◌≤◌, ◌<◌}
 use mathlib.Core.Path.{◌≡◌, refl, sym, ap, ap₂, ◌∙◌}
 use mathlib.Core.List.{List, [], ◌∷◌, ◌++◌}
@@ -17,15 +17,11 @@ use Rattle.unwinding.specs.View.{EpilogueOf, View}
 use Rattle.thumb.specs.Instruction.{of16, of32, no_instruction, instruction_at}
 use Rattle.thumb.specs.declared.Instruction.{Instruction}
 use Rattle.expected.specs.Expected.{meets}
-use Rattle.comparing.specs.Items.{Coded, size_of, Role, opens, closes, leaves, Item, expects, compared, is_last, item, prologue_items, epilogue_items}
-use Rattle.comparing.specs.declared.Compared.{Compared}
-use Rattle.comparing.specs.declared.Compared.TheVariants.{Differs}
+use Rattle.comparing.specs.Items.{Coded, size_of, Role, opens, closes, leaves, Item, expects, Compared, differs, compared, is_last, item, prologue_items, epilogue_items}
 use Rattle.expected.specs.declared.Expected.{Expected}
-use Rattle.fitting.specs.Fitting.{epilogues_items, items, answered, fitted}
+use Rattle.fitting.specs.Fitting.{epilogues_items, items, Fitted, answered, fitted}
 use Rattle.fitting.specs.Exactly.{InLine}
 use Rattle.fitting.specs.declared.FitRefusal.TheVariants.{Short}
-use Rattle.fitting.specs.declared.Fitted.{Fitted}
-use Rattle.fitting.specs.declared.Fitted.TheVariants.{Refused}
 use Rattle.fitting.proofs.Lines.{line-le, items-line}
 use Rattle.fitting.proofs.Exact.{Way, unread, short, long, way, fit-long, to-unread}
 
@@ -109,9 +105,9 @@ pairs-compared s t a b none l h = refl
 pairs-compared s t a b (pair {is} {js} o r p) l h =
     let e : Expected = expects r in
     let n : o + halfword_bytes e.size ≤ length s = omega (arith, line-le _ b is l.2, h) in
-    ap₂ (λ (x : Bool) (y : Compared). if x then y else Differs o) (meets-behind s t o e l.1 n) (pairs-compared s t _ b p l.2 h)
+    ap₂ (λ (x : Bool) (y : Compared). if x then y else differs o) (meets-behind s t o e l.1 n) (pairs-compared s t _ b p l.2 h)
 
-pub fit-behind : (x : Lent) (w : ℕ) (s t : List ℕ) → (fitted x w s ≡ Refused Short → ⊥) → fitted x w (s ++ t) ≡ fitted x w s
+pub fit-behind : (x : Lent) (w : ℕ) (s t : List ℕ) → (fitted x w s ≡ Err Short → ⊥) → fitted x w (s ++ t) ≡ fitted x w s
 fit-behind x w s t n = go (fitted x w s) (way x w s) refl
   where
     go : (f : Fitted) → Way x w s f → f ≡ fitted x w s → fitted x w (s ++ t) ≡ fitted x w s

@@ -1,6 +1,6 @@
 -- The instructions of a record that passes 6 and 7 stand one behind the other inside the function: prologue, then epilogues.
 -- Assumes nothing.
-use Rattle.std.specs.Prelude.{if◌then◌else◌}
+use Rattle.std.specs.Prelude.{if◌then◌else◌, Ok}
 use Prim.Native.Nat.{ℕ, ◌+◌, ◌*◌, ◌≤◌, ◌<◌}
 use mathlib.Core.Path.{◌≡◌, refl, sym, ap, subst, ◌∙◌}
 use mathlib.Core.List.{List, [], ◌∷◌, ◌++◌, map}
@@ -11,7 +11,6 @@ use native.Mathlib.Omega.{arith}
 use borrow.Author.Tests.{leb-true, eqb-true, eqb-false}
 use Rattle.words.specs.Units.{code_bytes, halfword_bytes}
 use Rattle.words.specs.declared.CodeBytes.{CodeBytes}
-use Rattle.words.specs.Answer.{ok}
 use Rattle.words.proofs.Answers.{bind_ok, ok_same}
 use Rattle.words.proofs.Tests.{both}
 use Rattle.unwinding.specs.CodeList.{Codes, total}
@@ -62,15 +61,15 @@ record Ends (c : Codes Coded) : Type 0 where
 abbrev Half : ℕ → Type 0
 Half n = (h : ℕ) × (n ≡ 2 * h) × (h ≤ 2)
 
-end-half : (k : List ℕ) (i : CodeBytes) (n : ℕ) → (scan_coded k i).ending ≡ ok n → Half n
+end-half : (k : List ℕ) (i : CodeBytes) (n : ℕ) → (scan_coded k i).ending ≡ Ok n → Half n
 end-half k i =
-    by-scan takes-coded k (λ j (x : Scan Coded). (n : ℕ) → x.ending ≡ ok n → Half n)
+    by-scan takes-coded k (λ j (x : Scan Coded). (n : ℕ) → x.ending ≡ Ok n → Half n)
     (λ j c next r e ih. ih)
     (λ j m e n q. let w = take_last k j (taken-last j (drop j k) e) in let z : m ≡ n = ok_same m n q in (w.0, sym z ∙ w.1, w.2))
     (λ j b e n q. absurd (let z : ◌≡◌ {A = ℕ} 0 1 = cc in omega arith))
     i
 
-ends : (k : List ℕ) (i : CodeBytes) (c : Codes Coded) → coded_at k i ≡ ok c → Ends c
+ends : (k : List ℕ) (i : CodeBytes) (c : Codes Coded) → coded_at k i ≡ Ok c → Ends c
 ends k i c q =
     let a = bind_ok (scan_coded k i).ending _ c q in
     let z : record { list = (scan_coded k i).list; end_size = a.0 } ≡ c = ok_same _ _ a.2 in
@@ -110,7 +109,7 @@ module _ (s : List ℕ) where
 
   -- epilogues that stand in line behind an offset
   epilogues-line :
-      (sh : Shape) (scs : List Scope) (exs : List (EpilogueOf Coded)) (floor reach : ℕ) → epilogues size_of coded_at sh scs ≡ ok exs
+      (sh : Shape) (scs : List Scope) (exs : List (EpilogueOf Coded)) (floor reach : ℕ) → epilogues size_of coded_at sh scs ≡ Ok exs
       → lined sh.span floor reach (map stretch exs) ≡ true → reach ≤ sh.span → InLine reach (epilogues_items s exs) sh.span
   unfolding epilogues epilogues_items
   epilogues-line sh [] exs f r q h b = subst (λ l. InLine r (epilogues_items s l) sh.span) (ok_same [] exs q) b
@@ -151,7 +150,7 @@ module _ (s : List ℕ) where
               (line-from r x.start (x.start + x.size) (epilogue_items s x.start x.codes.list x.codes.end_size) (leb-true _ _ q) here)
               (ih (x.start + 1) (x.start + x.size) l k)
 
-  pub items-line : (sh : Shape) (v : View Coded) → view size_of coded_at sh ≡ ok v → InLine 0 (items s sh.fragment v) sh.span
+  pub items-line : (sh : Shape) (v : View Coded) → view size_of coded_at sh ≡ Ok v → InLine 0 (items s sh.fragment v) sh.span
   items-line sh v q =
       let w = viewed size_of coded_at sh v q in
       let k = both (leb v.prologue sh.span) _ (sym (fits-lined sh.span v.prologue v.epilogues) ∙ w.fit) in

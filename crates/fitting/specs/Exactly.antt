@@ -1,10 +1,9 @@
 -- What passing is, said without any way of testing it (RULES 13.10): a record passes exactly if nothing refuses it and each of its instructions
 -- is the one that its code stands for; and 17 tells the first that is not.
-use Rattle.std.specs.Prelude.{ℕ, ◌+◌, ◌≤◌, ◌<◌, ◌≡◌, ◌⊎◌, List, [], ◌∷◌, ◌++◌, true, false, length}
+use Rattle.std.specs.Prelude.{ℕ, ◌+◌, ◌≤◌, ◌<◌, ◌≡◌, ◌⊎◌, List, [], ◌∷◌, ◌++◌, true, false, length, Ok, Err}
 use Rattle.words.specs.declared.Refusal.{Refusal}
 use Rattle.words.specs.declared.Refusal.TheVariants.{UnfitInput}
 use Rattle.words.specs.Units.{halfword_bytes}
-use Rattle.words.specs.Answer.{ok, refuse}
 use Rattle.lent.specs.Lent.{Lent}
 use Rattle.unwinding.specs.Shape.{Shape}
 use Rattle.unwinding.specs.View as Views
@@ -16,10 +15,8 @@ use Rattle.expected.specs.Expected.{home}
 use Rattle.comparing.specs.Items.{Coded, size_of, coded_at, Item, expects}
 use Rattle.expected.specs.declared.Acts.{Acts}
 use Rattle.expected.specs.declared.Acts.TheVariants.{Any, This, OrHome}
-use Rattle.fitting.specs.Fitting.{items}
+use Rattle.fitting.specs.Fitting.{Fitted, items}
 use Rattle.fitting.specs.declared.FitRefusal.TheVariants.{Record, Short, Differs}
-use Rattle.fitting.specs.declared.Fitted.{Fitted}
-use Rattle.fitting.specs.declared.Fitted.TheVariants.{Fits, Refused}
 
 -- an instruction does what is expected
 abbrev pub As : Acts → Action → Type 0
@@ -45,9 +42,9 @@ InLine a (i ∷ is) b = (a ≤ i.offset) × (0 < halfword_bytes (expects i.role)
 pub record Reads (x : Lent) (w : ℕ) : Type 0 where
   pub passes1 : fit_xdata x ≡ true
   pub shape : Shape
-  pub passes4-5 : shape_at x w ≡ ok shape
+  pub passes4-5 : shape_at x w ≡ Ok shape
   pub view : Views.View Coded
-  pub passes6-7 : Views.view size_of coded_at shape ≡ ok view
+  pub passes6-7 : Views.view size_of coded_at shape ≡ Ok view
 
 -- nor does 18, and these are its offsets, codes and instructions
 pub record Compares (x : Lent) (w : ℕ) (s : List ℕ) (is : List Item) : Type 0 where
@@ -76,7 +73,7 @@ pub record IsShort (x : Lent) (w : ℕ) (s : List ℕ) : Type 0 where
 
 -- 1, and then what 4 to 7 say of the record
 abbrev pub Unread : Lent → ℕ → Refusal → Type 0
-Unread x w r = ((fit_xdata x ≡ false) × (r ≡ UnfitInput)) ⊎ ((fit_xdata x ≡ true) × (view_at x w ≡ refuse r))
+Unread x w r = ((fit_xdata x ≡ false) × (r ≡ UnfitInput)) ⊎ ((fit_xdata x ≡ true) × (view_at x w ≡ Err r))
 
 abbrev pub Iff : Type 0 → Type 0 → Type 0
 Iff A B = (A → B) × (B → A)
@@ -84,7 +81,7 @@ Iff A B = (A → B) × (B → A)
 -- an answer, whoever gives it
 pub record Exactly (answer : Fitted) (x : Lent) (w : ℕ) (s : List ℕ) : Type 0 where
   pub in-line : (is : List Item) (c : Compares x w s is) → InLine 0 is c.reads.shape.span
-  pub passes : Iff (answer ≡ Fits) (Passes x w s)
-  pub differs : (o : ℕ) → Iff (answer ≡ Refused (Differs o)) (DiffersAt x w s o)
-  pub short : Iff (answer ≡ Refused Short) (IsShort x w s)
-  pub unread : (r : Refusal) → Iff (answer ≡ Refused (Record r)) (Unread x w r)
+  pub passes : Iff (answer ≡ Ok tt) (Passes x w s)
+  pub differs : (o : ℕ) → Iff (answer ≡ Err (Differs o)) (DiffersAt x w s o)
+  pub short : Iff (answer ≡ Err Short) (IsShort x w s)
+  pub unread : (r : Refusal) → Iff (answer ≡ Err (Record r)) (Unread x w r)

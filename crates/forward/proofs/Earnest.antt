@@ -1,19 +1,19 @@
 -- The conditions met in earnest: a body that overwrites what was saved and its own words, a sub that writes what SP falls over, nops
 -- that write what they may, SP moved before the epilogue; and the handler that the answer has.
 -- Assumes nothing.
-use Rattle.std.specs.Prelude.{if◌then◌else◌}
+use Rattle.std.specs.Prelude.{if◌then◌else◌, Ok, Some}
 use Prim.Native.Nat.{ℕ, ◌+◌, ◌-◌, ◌*◌, ◌^◌, ◌≤◌, ◌<◌}
 use mathlib.Core.Path.{◌≡◌, refl, sym, ap, ap₂, ◌∙◌, subst}
 use mathlib.Core.Bool.{Bool, true, false}
 use mathlib.Core.List.{List, [], ◌∷◌}
 use mathlib.Core.Logic.{◌≢◌, inl, inr}
 use lib.Dec.{ltb, eqb}
+use lib.ListN.{length}
 use native.Mathlib.Omega.{arith}
 use borrow.Author.Tests.{ltb-true, eqb-false}
 use Rattle.lent.specs.Lent.{Lent, end, word_at}
+use Rattle.words.specs.declared.Place.{Place}
 use Rattle.words.specs.declared.Place.TheVariants.{Prologue, Body, Epilogue}
-use mathlib.Core.Option.{some}
-use Rattle.words.specs.Answer.{ok}
 use Rattle.unwinding.specs.Shape.{Shape}
 use Rattle.unwinding.specs.View.{View}
 use Rattle.codes.specs.declared.Code.{Code}
@@ -371,14 +371,22 @@ shape_at :
     → now.regs.pc ≡ pc
     → a.shape ≡ s
 shape_at {t} {own} {s} e now h a z =
-    let p : ok (some a.own) ≡ ok (some own) = sym a.found ∙ ap (find t.image t.pdata) z ∙ h.found in
+    let p : Ok (Some a.own) ≡ Ok (Some own) = sym a.found ∙ ap (find t.image t.pdata) z ∙ h.found in
     let q : a.own ≡ own = cc in
-    let r : ok a.shape ≡ ok s = sym a.passes4-5 ∙ ap (shape_of t.xdata) q ∙ h.passes4-5 in
+    let r : Ok a.shape ≡ Ok s = sym a.passes4-5 ∙ ap (shape_of t.xdata) q ∙ h.passes4-5 in
     cc
+
+told_as :
+    (u : Unwound) {p p' : Place} {h h' : ℕ} {cs cs' : List Code} → u.told ≡ Ok (record { place = p; handler = h; codes = length cs })
+    → p ≡ p'
+    → h ≡ h'
+    → cs ≡ cs'
+    → u.told ≡ Ok (record { place = p'; handler = h'; codes = length cs' })
+told_as u q p h cs = rw (← p, ← h, ← cs) q
 
 pub handles-4-handler :
     (e : State) → Entered e
-    → (r : Reaches (inputs handles) e 4 Body cs) × ((answer (lending (inputs handles) r.now.stack) r.now.regs).handler ≡ 0x5678)
+    → (r : Reaches (inputs handles) e 4 Body cs) × ((answer (lending (inputs handles) r.now.stack) r.now.regs).told ≡ Ok (record { place = Body; handler = 0x5678; codes = length cs }))
 unfolding opened Demand3
 handles-4-handler e h =
     let at : At (inputs handles) (own handles) (shape handles) (views handles) 0x00401004 4 = known handles 4 refl (omega arith) in
@@ -388,4 +396,4 @@ handles-4-handler e h =
     let f = demand3 (lending (inputs handles) r.now.stack) e r.now r.asked in
     let q = f.found r.now.stack (outside-same _ _ r.now.stack) in
     let z = shape_at e r.now at r.asked (ap (λ (s : State). s.regs.pc) i.1 ∙ b.at) in
-    (r, ap (λ (u : Unwound). u.handler) q ∙ f.answer.handler ∙ ap (λ (s : Shape). s.handler) z)
+    (r, told_as (answer (lending (inputs handles) r.now.stack) r.now.regs) (ap (λ (u : Unwound). u.told) q ∙ f.answer.told) r.place (ap (λ (s : Shape). s.handler) z) r.codes)

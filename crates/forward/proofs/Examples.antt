@@ -1,11 +1,11 @@
 -- The conditions of demand 3 can be met: for each kind of record a function that was entered with any registers and comes to stand
 -- in its prologue, its body and its epilogue.
 -- Assumes nothing.
+use Rattle.std.specs.Prelude.{Ok, Option, Some}
 use Prim.Native.Nat.{ℕ, ◌+◌, ◌-◌, ◌^◌, ◌≤◌, ◌<◌}
 use mathlib.Core.Path.{◌≡◌, refl, sym, ap, subst}
 use mathlib.Core.List.{List, [], ◌∷◌, ◌++◌, append-nil}
 use mathlib.Core.Bool.{Bool, true, false}
-use mathlib.Core.Option.{Option, some}
 use mathlib.Core.Logic.{inl, inr}
 use lib.ListN.{replicate}
 use native.Mathlib.Omega.{arith}
@@ -14,7 +14,7 @@ use Rattle.lent.specs.Lent.{lent}
 use Rattle.lent.proofs.Bytes.{bytes_of}
 use Rattle.words.specs.Units.{halfwords, stack_words}
 use Rattle.words.specs.declared.Place.TheVariants.{Prologue, Body, Epilogue}
-use Rattle.words.specs.Answer.{Res, ok, or_else}
+use Rattle.words.specs.Answer.{Res, or_else}
 use Rattle.unwinding.specs.Shape.{Shape}
 use Rattle.unwinding.specs.CodeList.{total}
 use Rattle.unwinding.specs.View.{EpilogueOf, View, view}
@@ -69,7 +69,7 @@ looks k o =
     (fit_xdata t.xdata, find t.image t.pdata pc, shape_of t.xdata (own k), view size codes_at (shape k), even pc - t.image - (own k).start)
 
 abbrev pub Looks : Tables → ℕ → Type 0
-Looks k o = looks k o ≡ (true, ok (some (own k)), ok (shape k), ok (views k), o)
+Looks k o = looks k o ≡ (true, Ok (Some (own k)), Ok (shape k), Ok (views k), o)
 
 abbrev pub Near : Tables → ℕ → Type 0
 Near k o = (o < (shape k).span) × (0x00401000 + o < 2 ^ 32)

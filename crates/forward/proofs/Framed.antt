@@ -1,12 +1,11 @@
 -- Demand 3 for one frame's whole answer on lent tables and stack.
 -- Assumes nothing.
-use Rattle.std.specs.Prelude.{if◌then◌else◌}
+use Rattle.std.specs.Prelude.{if◌then◌else◌, Ok, Some}
 use Prim.Native.Nat.{ℕ, ◌-◌, ◌%◌, ◌^◌, ◌≤◌, ◌<◌}
 use mathlib.Core.Path.{◌≡◌, refl, sym, ap, ap₂, ◌∙◌, subst}
 use mathlib.Core.Bool.{Bool, true, false, ◌&&◌}
 use mathlib.Core.List.{List, [], ◌∷◌}
 use mathlib.Core.Logic.{◌≢◌}
-use mathlib.Core.Option.{some}
 use lib.Dec.{leb, eqb}
 use lib.ListN.{length}
 use native.Mathlib.Omega.{arith}
@@ -16,7 +15,7 @@ use Rattle.lent.specs.Lent.{Lent, end}
 use Rattle.words.specs.Units.{code_bytes, halfword_bytes}
 use Rattle.words.specs.declared.CodeBytes.{CodeBytes}
 use Rattle.words.specs.declared.Refusal.TheVariants.{Reserved}
-use Rattle.words.specs.Answer.{ok, ◌>>=◌, ◌>>◌, need}
+use Rattle.words.specs.Answer.{Res, ◌>>=◌, ◌>>◌, need}
 use Rattle.unwinding.specs.CodeList.{Codes}
 use Rattle.unwinding.specs.Shape.{Shape}
 use Rattle.unwinding.specs.View.{EpilogueOf, View}
@@ -53,7 +52,7 @@ use Rattle.forward.proofs.PackedSecond.{packed-second}
 same-list : (s : Shape) (v : View Code) (sc : Scope) (ex : EpilogueOf Code) → Viewed size codes_at s v → Of sc ex s.scopes v.epilogues → sc.index ≡ code_bytes 0 → Second (codes_of v) ex.codes.list
 same-list s v sc ex w m h =
     let x = read_of size codes_at s w.epilogues m in
-    let e : ok v.codes ≡ ok ex.codes = sym w.codes ∙ ap (codes_at s.codes) (sym h) ∙ x.codes in
+    let e : Ok v.codes ≡ Ok ex.codes = sym w.codes ∙ ap (codes_at s.codes) (sym h) ∙ x.codes in
     let l : codes_of v ≡ ex.codes.list = ap (λ (c : Codes Code). c.list) (let z : v.codes ≡ ex.codes = cc in z) in
     subst (Second (codes_of v)) l (record { inv = λ base e b m v. v; r_x = λ x q. q })
 
@@ -68,15 +67,15 @@ shape_for w =
     let p : Packed = fields w in
     record { span = halfword_bytes p.length; codes = (written p).bytes; fragment = eqb p.flag 2; scopes = if eqb p.ret 3 then [] else last_scope (written p).first ∷ []; handler = 0 }
 
-is-packed : (w : ℕ) (s : Shape) → packed_shape w ≡ ok s → IsPacked w s
+is-packed : (w : ℕ) (s : Shape) → packed_shape w ≡ Ok s → IsPacked w s
 unfolding packed_shape write_codes
 is-packed w s h = go (allowed (fields w)) refl h
   where
     go :
         (t : Bool) → allowed (fields w) ≡ t
-        → ((need t Reserved >> ok (written (fields w)))
-        >>= λ c. ok (record { span = halfword_bytes (fields w).length; codes = c.bytes; fragment = eqb (fields w).flag 2; scopes = if eqb (fields w).ret 3 then [] else last_scope c.first ∷ []; handler = 0 }))
-        ≡ ok s
+        → ((need t Reserved >> Ok (written (fields w)))
+        >>= λ c. Ok (record { span = halfword_bytes (fields w).length; codes = c.bytes; fragment = eqb (fields w).flag 2; scopes = if eqb (fields w).ret 3 then [] else last_scope c.first ∷ []; handler = 0 }))
+        ≡ Ok s
         → IsPacked w s
     go true e q =
         let z : shape_for w ≡ s = cc in
@@ -104,7 +103,7 @@ only ret i m h = go (eqb ret 3) refl m h
         empty (later m) q = let z : ◌≡◌ {A = ℕ} 0 1 = cc in omega arith
 
 packed-list :
-    (w : ℕ) (s : Shape) (v : View Code) (sc : Scope) (ex : EpilogueOf Code) → packed_shape w ≡ ok s → Viewed size codes_at s v → Of sc ex s.scopes v.epilogues
+    (w : ℕ) (s : Shape) (v : View Code) (sc : Scope) (ex : EpilogueOf Code) → packed_shape w ≡ Ok s → Viewed size codes_at s v → Of sc ex s.scopes v.epilogues
     → (SavesD (fields w) → PF (fields w) ≡ EF (fields w))
     → Second (codes_of v) ex.codes.list
 packed-list w s v sc ex h y m d =
@@ -117,12 +116,12 @@ packed-list w s v sc ex h y m d =
     let b : ex.codes ≡ epilogue_codes p = given (sym x.codes ∙ ap₂ codes_at i.codes o.1 ∙ (hs.second o.0).read) in
     rw (a, b) (packed-second p (fields_fit_lem w) i.allowed d)
   where
-    given : {c d : Codes Code} → ok c ≡ ok d → c ≡ d
+    given : {c d : Codes Code} → ◌≡◌ {A = Res (Codes Code)} (Ok c) (Ok d) → c ≡ d
     given h = cc
 
 -- ---- by the record's kind
 pub fit-second :
-    (t : Lent) (r : Entry) (s : Shape) (v : View Code) → shape_of t r ≡ ok s → Viewed size codes_at s v → (sc : Scope) (ex : EpilogueOf Code) → Of sc ex s.scopes v.epilogues → Fit r sc
+    (t : Lent) (r : Entry) (s : Shape) (v : View Code) → shape_of t r ≡ Ok s → Viewed size codes_at s v → (sc : Scope) (ex : EpilogueOf Code) → Of sc ex s.scopes v.epilogues → Fit r sc
     → Second (codes_of v) ex.codes.list
 fit-second t r s v h y sc ex m (full z i) = same-list s v sc ex y m i
 fit-second t r s v h y sc ex m (packed z d) = packed-list r.word s v sc ex (rw (ne_eqb (bits 0 2 r.word) 0 z) at h) y m d
@@ -148,13 +147,13 @@ stands-like k k' top a p q h m n =
 -- a frame whose tests pass is its record's answer
 pub passed :
     (t : Inputs) (k : Lent) (g : Regs) (e : Entry) (s : Shape) (o : ℕ) (c : Caller) → fit_stack k ≡ true → fit_xdata t.xdata ≡ true
-    → find t.image t.pdata g.pc ≡ ok (some e)
+    → find t.image t.pdata g.pc ≡ Ok (Some e)
     → stands k g.sp ≡ true
-    → shape_of t.xdata e ≡ ok s
+    → shape_of t.xdata e ≡ Ok s
     → o ≡ even g.pc - t.image - e.start
     → o < s.span
-    → within k s o g ≡ ok c
-    → frame (lending t k) g ≡ ok c
+    → within k s o g ≡ Ok c
+    → frame (lending t k) g ≡ Ok c
 unfolding frame_of by_record
 passed t k g e s o c a b f n h p q w = rw (a, b, f, n, h, ← p, lt-ltb o s.span q) w
 
@@ -171,7 +170,7 @@ framed t entry now a =
     let r = ready a.own a.shape a.view entry y a.aligned (fit-second t.xdata a.own a.shape a.view a.passes4-5 y) top a.stopped in
     let f = finds-in a.shape a.view entry a.offset now a.place a.undone a.passes6-7 a.aligned top m r in
     record {
-      caller = unwound now.regs (ok f.caller);
+      caller = unwound now.regs (Ok f.caller);
       found = λ k o.
           let o' : Outside entry.regs.sp (end now.stack) now.stack k = subst (λ (x : Lent). Outside entry.regs.sp (end x) x k) (sym a.stack) o in
           ap (unwound now.regs)

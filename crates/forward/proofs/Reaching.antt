@@ -1,6 +1,7 @@
 -- Every place of a record whose code list may have a prologue is reached (RULES 10.21), from any state with room and on from any state on
 -- the way.
 -- Assumes nothing.
+use Rattle.std.specs.Prelude.{Ok}
 use Prim.Native.Nat.{ℕ, ◌+◌, ◌-◌, ◌%◌, ◌^◌, ◌≤◌, ◌<◌}
 use mathlib.Core.Path.{◌≡◌, refl, sym, ap, ap₂, ◌∙◌, subst}
 use mathlib.Core.Bool.{◌&&◌}
@@ -11,7 +12,6 @@ use Rattle.words.specs.Bits.{even}
 use Rattle.lent.specs.Lent.{Lent, end, word_at}
 use Rattle.words.specs.declared.Place.{Place}
 use Rattle.words.specs.declared.Place.TheVariants.{Prologue, Body, Epilogue}
-use Rattle.words.specs.Answer.{ok}
 use Rattle.unwinding.specs.CodeList.{total}
 use Rattle.unwinding.specs.Shape.{Shape}
 use Rattle.unwinding.specs.View.{View}
@@ -115,7 +115,7 @@ module _ (k : Lent) (e : St) (al : e.sp % 4 ≡ 0) (top : e.sp ≤ end k) (r_x :
         now = t;
         leaves = f t (record {
           does = λ h z.
-              let same : ok n.next ≡ ok h = sym (n.runs k (outside-same e.sp (end k) k)) ∙ ap (λ (x : Lent). effect x u s.regs) (sym q) ∙ z in
+              let same : Ok n.next ≡ Ok h = sym (n.runs k (outside-same e.sp (end k) k)) ∙ ap (λ (x : Lent). effect x u s.regs) (sym q) ∙ z in
               let p : n.next ≡ h = cc in
               (ap (λ g. g.sp) p, record { r = ap (λ g. g.r) p; lr = ap (λ g. g.lr) p; d = ap (λ g. g.d) p });
           stack = refl;

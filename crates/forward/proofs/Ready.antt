@@ -1,5 +1,6 @@
 -- At each stop the codes left to undo there are those of the instructions to undo, and the invariant holds of them.
 -- Assumes nothing.
+use Rattle.std.specs.Prelude.{Ok}
 use Prim.Native.Nat.{ℕ, ◌%◌, ◌≤◌}
 use mathlib.Core.Path.{◌≡◌, refl, sym, subst}
 use mathlib.Core.List.{List, ◌++◌}
@@ -8,7 +9,6 @@ use borrow.Author.Tests.{eq-eqb}
 use Rattle.lent.specs.Lent.{Lent, end, word_at}
 use Rattle.words.specs.declared.Place.{Place}
 use Rattle.words.specs.declared.Place.TheVariants.{Prologue, Body, Epilogue}
-use Rattle.words.specs.Answer.{ok}
 use Rattle.unwinding.specs.CodeList.{total}
 use Rattle.unwinding.specs.Shape.{Shape}
 use Rattle.unwinding.specs.View.{EpilogueOf, View}
@@ -41,7 +41,7 @@ pub record Second (first second : List Code) : Type 0 where
   pub r_x : (x : ℕ) → RX second x → RX first x
 
 pub record Ready (v : View Code) (entry : State) (o : ℕ) (now : State) (p : Place) (cs : List Code) : Type 0 where
-  pub todo : todo size executing v o ≡ ok (record { place = p; codes = cs })
+  pub todo : todo size executing v o ≡ Ok (record { place = p; codes = cs })
   pub sound : AllSound cs
   pub inv : Inv now.stack.base (st entry) (flat cs) (seen now.regs) (word_at now.stack)
 
@@ -50,7 +50,7 @@ module _ (r : Entry) (s : Shape) (v : View Code) (entry : State) (w : Viewed siz
   ready-prologue {o} {cs = cs} h =
       let e : total size cs ≡ o = sym h.offset in
       record {
-        todo = subst (λ n. todo size executing v n ≡ ok (record { place = Prologue; codes = cs })) e (todo-prologue size executing v h.ahead cs h.codes (all-front _ h.ahead cs (subst (Sized size) h.codes (codes-sized _ _ _ w.codes))) (omega (arith, e, h.early)));
+        todo = subst (λ n. todo size executing v n ≡ Ok (record { place = Prologue; codes = cs })) e (todo-prologue size executing v h.ahead cs h.codes (all-front _ h.ahead cs (subst (Sized size) h.codes (codes-sized _ _ _ w.codes))) (omega (arith, e, h.early)));
         sound = all_end SoundCode h.ahead cs (subst AllSound h.codes (codes-sound _ _ _ w.codes));
         inv = inv-prologue al h.done h.stays;
       }
@@ -75,7 +75,7 @@ module _ (r : Entry) (s : Shape) (v : View Code) (entry : State) (w : Viewed siz
       (λ x a. q.r_x x (subst (λ y. RX y x) (sym h.codes) a)) h.ran refl
       (subst (λ y. Inv k.base (st entry) (flat y) (seen h.start.regs) (word_at k)) h.codes i) in
       record {
-        todo = subst (λ n. todo size executing v n ≡ ok (record { place = Epilogue; codes = cs })) (sym h.offset)
+        todo = subst (λ n. todo size executing v n ≡ Ok (record { place = Epilogue; codes = cs })) (sym h.offset)
             (todo-epilogue size executing s.span v h.gone cs w.fit h.listed (eq-eqb _ _ h.unconditional) x.long (all-front _ h.gone cs (subst (Sized size) h.codes (codes-sized _ _ _ x.codes))) h.codes h.inside);
         sound = all_end SoundCode h.gone cs sound;
         inv = subst (λ (y : Lent). Inv y.base (st entry) (flat cs) (seen now.regs) (word_at y)) (sym stack) j;

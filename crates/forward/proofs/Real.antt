@@ -1,6 +1,6 @@
 -- Registers stay of 32 or 64 bits and bytes stay bytes, whatever the instructions of a prologue store and those of an epilogue load.
 -- Assumes nothing.
-use Rattle.std.specs.Prelude.{if◌then◌else◌}
+use Rattle.std.specs.Prelude.{if◌then◌else◌, Ok}
 use Prim.Native.Nat.{ℕ, zero, suc, ◌+◌, ◌-◌, ◌*◌, ◌/◌, ◌%◌, ◌^◌, ◌<◌}
 use mathlib.Core.Path.{◌≡◌, subst}
 use mathlib.Core.Bool.{Bool, true, false}
@@ -11,7 +11,6 @@ use native.Mathlib.Omega.{arith}
 use Rattle.words.specs.Bits.{bit}
 use Rattle.lent.specs.Lent.{Lent, holds, word_at}
 use Rattle.words.specs.declared.Refusal.TheVariants.{BadStack}
-use Rattle.words.specs.Answer.{ok}
 use Rattle.codes.specs.declared.Undo.{Undo}
 use Rattle.codes.specs.declared.Undo.TheVariants.{Up, Pop, SpFrom, Vpop, LoadLr, Nothing}
 use Rattle.machine.specs.Registers.{reg, set_reg, set_d, set_sp}
@@ -100,21 +99,21 @@ store-all-real [] k a g h w = h
 store-all-real (x ∷ xs) k a g h w = store-all-real xs (store_reg k a x (value g x)) (a + width x) g (store-reg-real k a x g h w) w
 
 -- ---- a code's effect
-load-real : (k : Lent) (a w : ℕ) → Bytes k → load k a ≡ ok w → w < 2 ^ 32
+load-real : (k : Lent) (a w : ℕ) → Bytes k → load k a ≡ Ok w → w < 2 ^ 32
 unfolding load
 load-real k a w h q =
-    let e = need-ok (holds k a 4) BadStack (ok (word_at k a)) w q in
+    let e = need-ok (holds k a 4) BadStack (Ok (word_at k a)) w q in
     let z : word_at k a ≡ w = cc e.1 in
     omega (arith, word-real k a h)
 
-pop-reg-real : (k : Lent) (x : ℕ) (g h : Regs) → Bytes k → Real g → pop_reg k x g ≡ ok h → Real h
+pop-reg-real : (k : Lent) (x : ℕ) (g h : Regs) → Bytes k → Real g → pop_reg k x g ≡ Ok h → Real h
 unfolding pop_reg
 pop-reg-real k x g h b w q =
     let e = bind_ok (load k g.sp) _ h q in
     let z : set_sp (set_reg g x e.0) (g.sp + 4) ≡ h = cc e.2 in
     subst Real z (set-sp-real (g.sp + 4) (set-real x e.0 w (load-real k g.sp e.0 b e.1)))
 
-pop-d-real : (k : Lent) (x : ℕ) (g h : Regs) → Bytes k → Real g → pop_d k x g ≡ ok h → Real h
+pop-d-real : (k : Lent) (x : ℕ) (g h : Regs) → Bytes k → Real g → pop_d k x g ≡ Ok h → Real h
 unfolding pop_d
 pop-d-real k x g h b w q =
     let e = bind_ok (load k g.sp) _ h q in
@@ -124,25 +123,25 @@ pop-d-real k x g h b w q =
     (set-sp-real (g.sp + 8)
     (set-d-real x (e.0 + 2 ^ 32 * f.0) w (omega (arith, load-real k g.sp e.0 b e.1, load-real k (g.sp + 4) f.0 b f.1))))
 
-pop-real : (k : Lent) (l n : ℕ) (g h : Regs) → Bytes k → Real g → pop k l n g ≡ ok h → Real h
+pop-real : (k : Lent) (l n : ℕ) (g h : Regs) → Bytes k → Real g → pop k l n g ≡ Ok h → Real h
 unfolding pop
 pop-real k l zero g h b w q = let z : g ≡ h = cc in subst Real z w
 pop-real k l (suc n) g h b w q =
     let e = bind_ok (pop k l n g) _ h q in
     go (bit n l) e.0 (pop-real k l n g e.0 b w e.1) e.2
   where
-    go : (t : Bool) (m : Regs) → Real m → (if t then pop_reg k n m else ok m) ≡ ok h → Real h
+    go : (t : Bool) (m : Regs) → Real m → (if t then pop_reg k n m else Ok m) ≡ Ok h → Real h
     go true m v p = pop-reg-real k n m h b v p
     go false m v p = let z : m ≡ h = cc in subst Real z v
 
-vpop-real : (k : Lent) (x n : ℕ) (g h : Regs) → Bytes k → Real g → vpop k x n g ≡ ok h → Real h
+vpop-real : (k : Lent) (x n : ℕ) (g h : Regs) → Bytes k → Real g → vpop k x n g ≡ Ok h → Real h
 unfolding vpop
 vpop-real k x zero g h b w q = let z : g ≡ h = cc in subst Real z w
 vpop-real k x (suc n) g h b w q =
     let e = bind_ok (vpop k x n g) _ h q in
     pop-d-real k (x + n) e.0 h b (vpop-real k x n g e.0 b w e.1) e.2
 
-pub effect-real : (k : Lent) (u : Undo) (g h : Regs) → Bytes k → Real g → effect k u g ≡ ok h → Real h
+pub effect-real : (k : Lent) (u : Undo) (g h : Regs) → Bytes k → Real g → effect k u g ≡ Ok h → Real h
 effect-real k (Up n) g h b w q = let z : set_sp g (g.sp + 4 * n.0) ≡ h = cc in subst Real z (set-sp-real (g.sp + 4 * n.0) w)
 effect-real k (Pop l) g h b w q = pop-real k l 15 g h b w q
 effect-real k (SpFrom x) g h b w q = let z : set_sp g (reg g x) ≡ h = cc in subst Real z (set-sp-real (reg g x) w)

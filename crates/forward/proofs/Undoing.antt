@@ -1,7 +1,7 @@
 -- The machine's own steps undo what the prologue's did: under the invariant no code is refused, and the answer is the same for every
 -- stack that agrees below the caller's SP.
 -- Assumes nothing.
-use Rattle.std.specs.Prelude.{if◌then◌else◌}
+use Rattle.std.specs.Prelude.{if◌then◌else◌, Ok}
 use Prim.Native.Nat.{ℕ, zero, suc, ◌+◌, ◌-◌, ◌*◌, ◌%◌, ◌^◌, ◌≤◌, ◌<◌}
 use mathlib.Core.Path.{◌≡◌, refl, sym, ap, ◌∙◌, subst}
 use mathlib.Core.Bool.{Bool, true, false}
@@ -12,7 +12,7 @@ use native.Mathlib.Omega.{arith}
 use borrow.Author.Tests.{eq-eqb, le-leb, lt-ltb, le-ltb}
 use Rattle.words.specs.Bits.{bit}
 use Rattle.lent.specs.Lent.{Lent, end, word_at}
-use Rattle.words.specs.Answer.{Res, ok, ◌>>=◌}
+use Rattle.words.specs.Answer.{Res, ◌>>=◌}
 use Rattle.unwinding.specs.CodeList.{run}
 use Rattle.unwinding.proofs.All.{All}
 use Rattle.codes.specs.declared.Code.{Code}
@@ -45,16 +45,16 @@ module _ (k : Lent) (e : St) (al : e.sp % 4 ≡ 0) (top : e.sp ≤ end k) where
   pub record Undone (act : Lent → Regs → Res Regs) (cs : List Op) (g : Regs) : Type 0 where
     pub next : Regs
     pub whole : Whole next
-    pub runs : (k' : Lent) → Outside e.sp (end k) k k' → act k' g ≡ ok next
+    pub runs : (k' : Lent) → Outside e.sp (end k) k k' → act k' g ≡ Ok next
     pub inv : Inv k.base e cs (seen next) (word_at k)
 
   -- a load below the caller's SP
-  loaded : (k' : Lent) (a : ℕ) → Outside e.sp (end k) k k' → k.base ≤ a → a + 4 ≤ e.sp → load_word k' a ≡ ok (word_at k a)
+  loaded : (k' : Lent) (a : ℕ) → Outside e.sp (end k) k k' → k.base ≤ a → a + 4 ≤ e.sp → load_word k' a ≡ Ok (word_at k a)
   unfolding load_word
   loaded k' a o b h =
       let p : k'.base ≤ a = omega (arith, o.base) in
       let q : a + 4 ≤ end k' = omega (arith, o.base, o.long) in
-      rw (le-leb _ _ p, le-leb _ _ q) (ap ok (outside_below o a b h))
+      rw (le-leb _ _ p, le-leb _ _ q) (ap Ok (outside_below o a b h))
 
   pop-one : (x : ℕ) (cs : List Op) (g : Regs) → x < 15 → x ≢ 13 → Whole g → Inv k.base e (load x ∷ cs) (seen g) (word_at k) → Undone (λ k' g. pop_reg k' x g) cs g
   unfolding pop_reg
@@ -92,7 +92,7 @@ module _ (k : Lent) (e : St) (al : e.sp % 4 ≡ 0) (top : e.sp ≤ end k) where
   pop-more :
       (t : Bool) (n : ℕ) (cs : List Op) (g : Regs) → n < 15 → (t ≡ true → n ≢ 13) → Whole g
       → Inv k.base e (loads (if t then n ∷ [] else []) ++ cs) (seen g) (word_at k)
-      → Undone (λ k' h. if t then pop_reg k' n h else ok h) cs g
+      → Undone (λ k' h. if t then pop_reg k' n h else Ok h) cs g
   pop-more true n cs g l h w v = pop-one n cs g l (h refl) w v
   pop-more false n cs g l h w v = record { next = g; whole = w; runs = λ k' o. refl; inv = v }
 
@@ -136,7 +136,7 @@ module _ (k : Lent) (e : St) (al : e.sp % 4 ≡ 0) (top : e.sp ≤ end k) where
 
   load-lr :
       (n : ℕ) (cs : List Op) (g : Regs) → Whole g → Inv k.base e (lr_ops n ++ cs) (seen g) (word_at k)
-      → Undone (λ k' g. load_word k' g.sp >>= λ w. ok (set_sp (set_reg g 14 w) (g.sp + 4 * n))) cs g
+      → Undone (λ k' g. load_word k' g.sp >>= λ w. Ok (set_sp (set_reg g 14 w) (g.sp + 4 * n))) cs g
   load-lr zero cs g w v = absurd (no-peek v)
   load-lr (suc n) cs g w v =
       let b = back k.base e al v in

@@ -1,5 +1,6 @@
 -- Demand 3 at an offset of a function, for a record's shape.
 -- Assumes nothing.
+use Rattle.std.specs.Prelude.{Ok}
 use Prim.Native.Nat.{ℕ, ◌+◌, ◌-◌, ◌%◌, ◌^◌, ◌≤◌, ◌<◌}
 use mathlib.Core.Path.{◌≡◌, refl, sym, ap, ◌∙◌}
 use mathlib.Core.List.{List}
@@ -10,7 +11,6 @@ use borrow.Author.Tests.{le-leb, le-ltb, lt-ltb}
 use Rattle.words.specs.Bits.{even}
 use Rattle.lent.specs.Lent.{Lent, end}
 use Rattle.words.specs.declared.Place.{Place}
-use Rattle.words.specs.Answer.{ok}
 use Rattle.unwinding.specs.Shape.{Shape}
 use Rattle.unwinding.specs.View.{View, view}
 use Rattle.codes.specs.Code.{size, codes_at}
@@ -36,28 +36,25 @@ value-r g x h = rw (lt-ltb x 16 (omega arith)) refl
 abbrev caller_of : Regs → Place → (handler : ℕ) → List Code → Caller
 caller_of h p rva cs = record { regs = returned h; place = p; handler = rva; codes = length cs }
 
-answers : (entry : State) (p : Place) (rva : ℕ) (cs : List Code) (g h : Regs) → Whole h → Entry (st entry) (seen h) → Answer entry p rva cs (unwound g (ok (caller_of h p rva cs)))
+answers : (entry : State) (p : Place) (rva : ℕ) (cs : List Code) (g h : Regs) → Whole h → Entry (st entry) (seen h) → Answer entry p rva cs (unwound g (Ok (caller_of h p rva cs)))
 answers entry p rva cs g h w e = record {
-  given = refl;
   sp = e.sp;
   pc = ap even (e.r 14 (inr (inl refl)));
   lr = e.r 14 (inr (inl refl));
   whole = record { r = w.r; d = w.d };
   r = λ x a b. sym (value-r h x b) ∙ e.r x (inl (a, b)) ∙ value-r entry.regs x b;
   d = λ x a b. sym (value-d h x) ∙ e.r (16 + x) (inr (inr (omega arith, omega arith))) ∙ value-d entry.regs x;
-  place = refl;
-  handler = refl;
-  codes = refl;
+  told = refl;
 }
 
 pub record FindsIn (s : Shape) (entry : State) (o : ℕ) (now : State) (p : Place) (cs : List Code) : Type 0 where
   pub caller : Caller
-  pub given : (k : Lent) → Outside entry.regs.sp (end now.stack) now.stack k → within k s o now.regs ≡ ok caller
-  pub answer : Answer entry p s.handler cs (unwound now.regs (ok caller))
+  pub given : (k : Lent) → Outside entry.regs.sp (end now.stack) now.stack k → within k s o now.regs ≡ Ok caller
+  pub answer : Answer entry p s.handler cs (unwound now.regs (Ok caller))
   pub near : Near now.stack.base entry.regs.sp now.regs.sp
 
 pub finds-in :
-    (s : Shape) (v : View Code) (entry : State) (o : ℕ) (now : State) (p : Place) (cs : List Code) → view size codes_at s ≡ ok v
+    (s : Shape) (v : View Code) (entry : State) (o : ℕ) (now : State) (p : Place) (cs : List Code) → view size codes_at s ≡ Ok v
     → entry.regs.sp % 4 ≡ 0
     → entry.regs.sp ≤ end now.stack
     → end now.stack < 2 ^ 32

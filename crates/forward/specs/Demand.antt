@@ -1,11 +1,8 @@
 -- Demand 3 (RULES 10.4): one frame finds the caller of a function that stands before an instruction, whatever its registers were at entry.
-use Rattle.std.specs.Prelude.{ℕ, ◌-◌, ◌%◌, ◌≤◌, ◌<◌, ◌≡◌, List, true, ◌&&◌, length, get_or}
-use Rattle.std.proofs.Math.Option.{some}
+use Rattle.std.specs.Prelude.{ℕ, ◌-◌, ◌%◌, ◌≤◌, ◌<◌, ◌≡◌, List, true, ◌&&◌, length, get_or, Some, Ok}
 use Rattle.words.specs.Bits.{even}
 use Rattle.lent.specs.Lent.{Lent, end}
 use Rattle.words.specs.declared.Place.{Place}
-use Rattle.words.specs.declared.Verdict.TheVariants.{Given}
-use Rattle.words.specs.Answer.{ok}
 use Rattle.unwinding.specs.Shape.{Shape}
 use Rattle.unwinding.specs.View as Views
 use Rattle.codes.specs.Code.{size, codes_at}
@@ -30,11 +27,11 @@ pub record Asked (t : Inputs) (entry now : State) : Type 0 where
   -- of the inputs and of the record (RULES 10.6)
   pub passes1 : (fit_stack t.stack && fit_xdata t.xdata) ≡ true
   pub own : Entry
-  pub found : find t.image t.pdata now.regs.pc ≡ ok (some own)
+  pub found : find t.image t.pdata now.regs.pc ≡ Ok (Some own)
   pub shape : Shape
-  pub passes4-5 : shape_of t.xdata own ≡ ok shape
+  pub passes4-5 : shape_of t.xdata own ≡ Ok shape
   pub view : Views.View Code
-  pub passes6-7 : Views.view size codes_at shape ≡ ok view
+  pub passes6-7 : Views.view size codes_at shape ≡ Ok view
   pub offset : ℕ
   pub here : offset ≡ even now.regs.pc - t.image - own.start
   pub covers : offset < shape.span
@@ -49,16 +46,13 @@ pub record Asked (t : Inputs) (entry now : State) : Type 0 where
 -- the answer: the frame is not refused; the caller has the SP, LR, r4-r11 and d8-d15 of the entry, and for its pc that LR without bit 0;
 -- the place, the handler and the count of the codes run (RULES 10.4)
 pub record Answer (entry : State) (p : Place) (rva : ℕ) (undone : List Code) (c : Unwound) : Type 0 where
-  pub given : c.verdict ≡ Given
   pub sp : c.regs.sp ≡ entry.regs.sp
   pub pc : c.regs.pc ≡ even entry.regs.lr
   pub lr : c.regs.lr ≡ entry.regs.lr
   pub whole : Whole c.regs
   pub r : (x : ℕ) → 4 ≤ x → x ≤ 11 → reg c.regs x ≡ reg entry.regs x
   pub d : (x : ℕ) → 8 ≤ x → x ≤ 15 → get_or c.regs.d x 0 ≡ get_or entry.regs.d x 0
-  pub place : c.place ≡ p
-  pub handler : c.handler ≡ rva
-  pub codes : c.codes ≡ length undone
+  pub told : c.told ≡ Ok (record { place = p; handler = rva; codes = length undone })
 
 -- one answer, whatever bytes the stack has at or above the caller's SP (RULES 10.5)
 pub record Finds (unwind : Inputs → Regs → Unwound) (t : Inputs) (entry now : State) (p : Place) (rva : ℕ) (undone : List Code) : Type 0 where

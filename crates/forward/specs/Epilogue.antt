@@ -1,6 +1,5 @@
 -- What an epilogue's instructions do (RULES 10.17, 10.18).
-use Rattle.std.specs.Prelude.{ℕ, ◌≤◌, ◌≡◌, ◌⊎◌, List, [], ◌∷◌}
-use Rattle.words.specs.Answer.{ok}
+use Rattle.std.specs.Prelude.{ℕ, ◌≤◌, ◌≡◌, ◌⊎◌, List, [], ◌∷◌, Ok}
 use Rattle.codes.specs.declared.Code.{Code}
 use Rattle.codes.specs.declared.Undo.{Undo}
 use Rattle.codes.specs.declared.Undo.TheVariants.{Up, Pop, SpFrom, Vpop, LoadLr, Nothing}
@@ -11,7 +10,7 @@ use Rattle.forward.specs.State.{State, SameRest}
 
 -- an instruction has its code's effect, where what it loads is lent; the pc goes on
 pub record Undoes (u : Undo) (s t : State) : Type 0 where
-  pub does : (after : Regs) → effect s.stack u s.regs ≡ ok after → (t.regs.sp ≡ after.sp) × SameRest after t.regs
+  pub does : (after : Regs) → effect s.stack u s.regs ≡ Ok after → (t.regs.sp ≡ after.sp) × SameRest after t.regs
   pub stack : t.stack ≡ s.stack
 
 -- the registers that a nop may change: r0-r3 and r12, but not rX

@@ -1,12 +1,10 @@
 -- That what demand 3 asks can be met (RULES 10.21): which code lists have a prologue at all, what it is to reach a place of a record, and
 -- that every place is reached, from any registers and on from any state in which a function may stand.
-use Rattle.std.specs.Prelude.{ℕ, ◌+◌, ◌-◌, ◌%◌, ◌^◌, ◌≤◌, ◌<◌, ◌≡◌, ◌≢◌, List, [], ◌∷◌, ◌++◌, true, get_or}
-use Rattle.std.proofs.Math.Option.{some}
+use Rattle.std.specs.Prelude.{ℕ, ◌+◌, ◌-◌, ◌%◌, ◌^◌, ◌≤◌, ◌<◌, ◌≡◌, ◌≢◌, List, [], ◌∷◌, ◌++◌, true, get_or, Some, Ok}
 use Rattle.words.specs.Bits.{even}
 use Rattle.lent.specs.Lent.{end}
 use Rattle.words.specs.declared.Place.{Place}
 use Rattle.words.specs.declared.Place.TheVariants.{Prologue, Body, Epilogue}
-use Rattle.words.specs.Answer.{ok}
 use Rattle.unwinding.specs.CodeList.{total}
 use Rattle.unwinding.specs.Shape.{Shape}
 use Rattle.unwinding.specs.View.{EpilogueOf, View, view}
@@ -77,9 +75,9 @@ pub record Reaches (t : Inputs) (entry : State) (offset : ℕ) (p : Place) (undo
 -- what the conditions ask of the tables: they pass 1 to 7 and this is their record at the pc, which stands at this offset of its function
 pub record At (t : Inputs) (own : Entry) (s : Shape) (v : View Code) (pc o : ℕ) : Type 0 where
   pub passes1 : fit_xdata t.xdata ≡ true
-  pub found : find t.image t.pdata pc ≡ ok (some own)
-  pub passes4-5 : shape_of t.xdata own ≡ ok s
-  pub passes6-7 : view size codes_at s ≡ ok v
+  pub found : find t.image t.pdata pc ≡ Ok (Some own)
+  pub passes4-5 : shape_of t.xdata own ≡ Ok s
+  pub passes6-7 : view size codes_at s ≡ Ok v
   pub here : o ≡ even pc - t.image - own.start
   pub covers : o < s.span
   pub small : pc < 2 ^ 32

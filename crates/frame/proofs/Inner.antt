@@ -1,12 +1,11 @@
 -- A frame that a record covers is at no leaf: what is left to undo is found in the prologue, in the body or in an epilogue.
 -- Assumes nothing.
-use Rattle.std.specs.Prelude.{if◌then◌else◌}
+use Rattle.std.specs.Prelude.{if◌then◌else◌, Ok, Err, Option, None, Some}
 use Prim.Native.Nat.{ℕ, ◌+◌, ◌-◌}
 use mathlib.Core.Path.{◌≡◌, sym, ap, ◌∙◌}
 use mathlib.Core.Logic.{◌≢◌}
 use mathlib.Core.List.{List, [], ◌∷◌}
 use mathlib.Core.Bool.{Bool, true, false, ◌&&◌}
-use mathlib.Core.Option.{Option, none, some}
 use lib.ListN.{length}
 use lib.Dec.{leb, ltb}
 use native.Mathlib.Omega.{arith}
@@ -14,7 +13,7 @@ use Rattle.lent.specs.Lent.{Lent}
 use Rattle.words.specs.declared.Place.{Place}
 use Rattle.words.specs.declared.Place.TheVariants.{Leaf, Prologue, Epilogue}
 use Rattle.words.specs.declared.Refusal.TheVariants.{InsideInstruction, Conditional, SpFell}
-use Rattle.words.specs.Answer.{Res, ok, refuse, ◌>>◌, need, maybe}
+use Rattle.words.specs.Answer.{Res, ◌>>◌, need, maybe}
 use Rattle.words.proofs.Answers.{bind_ok, need-ok}
 use Rattle.unwinding.specs.CodeList.{end_of, run}
 use Rattle.unwinding.specs.Shape.{Shape}
@@ -28,15 +27,15 @@ use Rattle.machine.specs.Step.{step}
 use Rattle.frame.specs.Frame.{Caller, returned, within}
 
 Inner : Res (Todo Code) → Type 0
-Inner x = (t : Todo Code) → x ≡ ok t → t.place ≢ Leaf
+Inner x = (t : Todo Code) → x ≡ Ok t → t.place ≢ Leaf
 
 inner-left : (p : Place) (after n : ℕ) (cs : List Code) → p ≢ Leaf → Inner (left size p after n cs)
 unfolding left Inner
 inner-left p after n cs h = go (end_of size after n cs)
   where
-    go : (l : Option (List Code)) → Inner (maybe l (refuse InsideInstruction) (λ l. ok (record { place = p; codes = l })))
-    go none t e = absurd (let z : ◌≡◌ {A = ℕ} 0 1 = cc in omega arith)
-    go (some l) t e = let z : t.place ≡ p = cc in λ q. h (sym z ∙ q)
+    go : (l : Option (List Code)) → Inner (maybe l (Err InsideInstruction) (λ l. Ok (record { place = p; codes = l })))
+    go None t e = absurd (let z : ◌≡◌ {A = ℕ} 0 1 = cc in omega arith)
+    go (Some l) t e = let z : t.place ≡ p = cc in λ q. h (sym z ∙ q)
 
 inner-if : (b : Bool) (x y : Res (Todo Code)) → Inner x → Inner y → Inner (if b then x else y)
 inner-if true x y h k = h
@@ -46,8 +45,8 @@ inner-epilogue : (e : EpilogueOf Code) (o : ℕ) → Inner (in_epilogue size exe
 unfolding in_epilogue Inner
 inner-epilogue e o t q =
     let l = left size Epilogue e.codes.end_size (e.start + e.size - o) e.codes.list in
-    let u = bind_ok l (λ t. need (executing e.condition) Conditional >> ok t) t q in
-    let v = need-ok (executing e.condition) Conditional (ok u.0) t u.2 in
+    let u = bind_ok l (λ t. need (executing e.condition) Conditional >> Ok t) t q in
+    let v = need-ok (executing e.condition) Conditional (Ok u.0) t u.2 in
     inner-left Epilogue e.codes.end_size (e.start + e.size - o) e.codes.list (λ q. let z : ◌≡◌ {A = ℕ} 0 1 = cc in omega arith) t (u.1 ∙ v.1)
 
 inner-epilogues : (es : List (EpilogueOf Code)) (o : ℕ) (cs : List Code) → Inner (in_epilogues size executing es o cs)
@@ -62,13 +61,13 @@ inner-todo v o =
     (inner-left Prologue 0 o v.codes.list (λ q. let z : ◌≡◌ {A = ℕ} 0 1 = cc in omega arith))
     (inner-epilogues v.epilogues o v.codes.list)
 
-pub inner-within : (k : Lent) (s : Shape) (o : ℕ) (g : Regs) (c : Caller) → within k s o g ≡ ok c → c.place ≢ Leaf
+pub inner-within : (k : Lent) (s : Shape) (o : ℕ) (g : Regs) (c : Caller) → within k s o g ≡ Ok c → c.place ≢ Leaf
 unfolding within Inner
 inner-within k s o g c q =
     let u = bind_ok (view size codes_at s) _ c q in
     let v = bind_ok (todo size executing u.0 o) _ c u.2 in
     let w = bind_ok (run (step k) v.0.codes g) _ c v.2 in
     let d : Caller = record { regs = returned w.0; place = v.0.place; handler = s.handler; codes = length v.0.codes } in
-    let x = need-ok (leb g.sp w.0.sp) SpFell (ok d) c w.2 in
+    let x = need-ok (leb g.sp w.0.sp) SpFell (Ok d) c w.2 in
     let same : d ≡ c = cc x.1 in
     λ z. inner-todo u.0 o v.0 v.1 (ap (λ y. y.place) same ∙ z)

@@ -1,12 +1,12 @@
 -- The order of one frame's refusals (RULES 9.50): inputs that are wrong in two ways, and the number that comes first.
 -- Assumes nothing.
+use Rattle.std.specs.Prelude.{Ok}
 use Prim.Native.Nat.{ℕ}
 use mathlib.Core.Path.{◌≡◌, refl}
 use mathlib.Core.List.{List, [], ◌∷◌, ◌++◌}
 use lib.ListN.{replicate}
 use Rattle.words.specs.Refusals.{verdict_number}
 use Rattle.words.specs.declared.Place.TheVariants.{Leaf}
-use Rattle.words.specs.Answer.{ok, verdict}
 use Rattle.machine.specs.declared.Regs.{Regs}
 use Rattle.frame.specs.Frame.{Inputs, frame}
 use Rattle.lent.proofs.Bytes.{bytes_of}
@@ -26,7 +26,7 @@ unsorted b =
     record { image = 0x400000; pdata = bytes_of (0x1000 ∷ 0x00910041 ∷ 0x1000 ∷ 0x00910041 ∷ []); xdata = record { base = 0; bytes = [] }; stack = record { base = b; bytes = bytes_of (replicate 8 7) } }
 
 abbrev refusal : Inputs → Regs → ℕ
-refusal t g = verdict_number (verdict (frame t g))
+refusal t g = verdict_number (frame t g)
 
 -- 1 before 2, 2 before 3, 3 before 8 of the SP that was given
 first-1 : refusal (unsorted 0x20002) (regs 0x3FFFFE 0x20001 0) ≡ 1
@@ -74,7 +74,7 @@ six-covered = refl
 
 six-far :
     frame (inputs 0x3000 (0x00B00008 ∷ 0 ∷ []) 0x20000) (regs 0x401010 0x20000 0)
-    ≡ ok (record { regs = regs 0 0x20000 0; place = Leaf; handler = 0; codes = 0 })
+    ≡ Ok (record { regs = regs 0 0x20000 0; place = Leaf; handler = 0; codes = 0 })
 unfolding opened
 six-far = refl
 

@@ -1,26 +1,26 @@
 -- The caller by the record found, of either kind, from where an offset stands in it.
 -- Assumes nothing.
-use Rattle.std.specs.Prelude.{if◌then◌else◌}
-use Prim.Native.Nat.{ℕ, ◌+◌, ◌-◌, ◌≤◌}
+use Rattle.std.specs.Prelude.{if◌then◌else◌, Option, None, Some, Ok, Err}
+use Prim.Native.Nat.{ℕ, ◌≤◌}
 use mathlib.Core.Path.{◌≡◌, refl, sym, ap, ◌∙◌}
 use mathlib.Core.List.{List}
 use mathlib.Core.Bool.{Bool, true, false}
 use lib.ListN.{length}
 use lib.Dec.{ltb}
 use Rattle.lent.specs.Lent.{Lent, lent}
-use Rattle.words.specs.declared.Verdict.{Verdict}
-use Rattle.words.specs.declared.Verdict.TheVariants.{Given, Refused}
-use Rattle.words.specs.Answer.{Res, ◌>>=◌}
+use Rattle.words.specs.Answer.{Res, ◌>>=◌, maybe}
 use Rattle.unwinding.specs.Shape.{Shape}
 use Rattle.machine.specs.declared.Regs.{Regs}
-use Rattle.record.specs.declared.Plan.{Plan}
-use Rattle.record.specs.AsCoded.Plan.{by_verdict, shape_by, picked, codes_in, read_of}
+use Rattle.record.specs.AsCoded.Plan.{shape_by, codes_in, codes_end, read_of, read_shape}
 use Rattle.record.proofs.Shapes.{read-shape, read-inside}
-use Rattle.place.specs.AsCoded.Placed.{outside, covered, placed_by, any_placed}
-use Rattle.place.proofs.Answered.{picked-codes}
+use Rattle.place.specs.AsCoded.Placed.{covered, in_plan, placed_in, any_placed}
+use Rattle.place.proofs.Answered.{placed-codes}
 use Rattle.place.specs.declared.AnyPlaced.{AnyPlaced}
+use Rattle.place.specs.declared.Placed.{Placed}
+use Rattle.place.specs.declared.Spot.{Spot}
+use Rattle.record.specs.declared.Record.{Record}
 use Rattle.frame.specs.Frame.{Caller, uncovered, within}
-use Rattle.frame.specs.AsCoded.FromPlace.{from_placed, by_word}
+use Rattle.frame.specs.AsCoded.FromPlace.{ran_from, from_placed, by_word}
 use Rattle.frame.proofs.Within.{spot_in, within-placed}
 
 module _ (first : Bool) (k : Lent) (g : Regs) (o : ℕ) where
@@ -29,28 +29,35 @@ module _ (first : Bool) (k : Lent) (g : Regs) (o : ℕ) where
 
   by-cover :
       (sh : Shape) (t : Bool)
-      → (if t then within k sh o g else uncovered first g) ≡ from_placed first k sh.codes g (if t then covered sh.handler (spot_in sh o) else outside)
-  by-cover sh true = within-placed first k sh o g
+      → (if t then within k sh o g else uncovered first g)
+      ≡ ((if t then (spot_in sh o >>= λ q. Ok (covered sh.handler q)) else Ok None) >>= from_placed first k sh.codes g)
+  by-cover sh true = within-placed k sh o g ∙ go (spot_in sh o)
+    where
+      go : (x : Res Spot) → (x >>= λ p. ran_from k sh.codes sh.handler g p.place p.index) ≡ (x >>= (λ q. Ok (covered sh.handler q)) >>= from_placed first k sh.codes g)
+      go (Ok p) = refl
+      go (Err r) = refl
   by-cover sh false = refl
 
-  by-verdict : (v : Verdict) (p : Plan) (s x : List ℕ) → (by_verdict v (shape_by p s x) >>= in_shape) ≡ from_placed first k s g (placed_by v p s x o)
-  by-verdict Given p s x = by-cover (shape_by p s x) (ltb o p.span)
-  by-verdict (Refused r) p s x = refl
-
-  module _ (b : ℕ) (x : List ℕ) (w : ℕ) where
+  module _ (x : List ℕ) where
     -- from where the offset stands in a record of either kind, with its code bytes
-    abbrev from : AnyPlaced → Res Caller
-    from q =
-        from_placed first k (picked q.written q.bytes x q.codes.start (q.codes.start + q.codes.len - q.codes.start)) g q.at
+    abbrev pub from : Option AnyPlaced → Res Caller
+    from p = maybe p (uncovered first g) (λ q. ran_from k (codes_in q.codes x) q.at.handler g q.at.place q.at.index)
 
-    pub word-placed : (q : AnyPlaced) → q ≡ any_placed (lent b x) w o → from q ≡ by_word first (lent b x) w k o g
-    word-placed q is =
-        let f = read_of (lent b x) w in
-        ap from is
-        ∙ ap (λ s. from_placed first k s g (placed_by f.verdict f.plan (codes_in x f) x o)) (picked-codes x f)
-        ∙ sym (ap (λ r. r >>= in_shape) (read-shape b x w f refl) ∙ by-verdict f.verdict f.plan (codes_in x f) x)
+    by-read : (r : Res Record) → (r >>= (λ f. placed_in x f o) >>= from) ≡ (read_shape x r >>= in_shape)
+    by-read (Ok f) = go (in_plan f.plan (codes_in f.codes x) x o) ∙ sym (by-cover (shape_by f.plan (codes_in f.codes x) x) (ltb o f.plan.span))
+      where
+        go :
+            (y : Res (Option Placed))
+            → (y >>= (λ p. Ok (maybe p None (λ q. Some (record { at = q; codes = f.codes })))) >>= from) ≡ (y >>= from_placed first k (codes_in f.codes x) g)
+        go (Ok (Some q)) = refl
+        go (Ok None) = refl
+        go (Err r) = refl
+    by-read (Err r) = refl
+
+    pub word-placed : (b w : ℕ) → (any_placed (lent b x) w o >>= from) ≡ by_word first (lent b x) w k o g
+    word-placed b w = by-read (read_of (lent b x) w) ∙ sym (ap (λ r. r >>= in_shape) (read-shape b x w))
 
 -- the part of the .xdata that holds the code bytes lies in it
 pub codes-inside :
-    (b : ℕ) (x : List ℕ) (w o : ℕ) (q : AnyPlaced) → q ≡ any_placed (lent b x) w o → q.codes.start + q.codes.len ≤ length x
-codes-inside b x w o q is = rw is (read-inside b x w (read_of (lent b x) w) refl)
+    (b : ℕ) (x : List ℕ) (w o : ℕ) (q : AnyPlaced) → Ok (Some q) ≡ any_placed (lent b x) w o → codes_end q.codes ≤ length x
+codes-inside b x w o q is = let u = placed-codes x (read_of (lent b x) w) o q is in rw u.2 (read-inside b x w u.0 u.1)

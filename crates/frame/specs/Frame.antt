@@ -1,13 +1,11 @@
 -- One frame (RULES 6), with its refusals in the order of RULES 9.50.
-use Rattle.std.specs.Prelude.{ℕ, ◌-◌, ◌%◌, ◌^◌, List, Bool, true, false, ◌&&◌, length, leb, ltb, eqb, if◌then◌else◌}
-use Rattle.std.proofs.Math.Option.{Option}
+use Rattle.std.specs.Prelude.{ℕ, ◌-◌, ◌%◌, ◌^◌, List, Bool, true, false, ◌&&◌, length, leb, ltb, eqb, if◌then◌else◌, Option, Ok, Err}
 use Rattle.words.specs.Bits.{even}
 use Rattle.lent.specs.Lent.{Lent, lent, end}
 use Rattle.words.specs.declared.Place.{Place}
 use Rattle.words.specs.declared.Place.TheVariants.{Leaf}
 use Rattle.words.specs.declared.Refusal.TheVariants.{UnfitInput, BadStack, SpFell, NoRecord}
-use Rattle.words.specs.declared.Verdict.TheVariants.{Given, Refused}
-use Rattle.words.specs.Answer.{Res, ok, refuse, ◌>>=◌, ◌>>◌, need, maybe}
+use Rattle.words.specs.Answer.{Res, ◌>>=◌, ◌>>◌, need, maybe}
 use Rattle.unwinding.specs.CodeList.{run}
 use Rattle.unwinding.specs.Shape.{Shape}
 use Rattle.unwinding.specs.View.{view}
@@ -55,8 +53,8 @@ leaf_of g = record { regs = returned g; place = Leaf; handler = 0; codes = 0 }
 
 -- nothing covers the pc: a leaf in the first frame, 12 in a later one (RULES 5.2, 6.2)
 abbrev pub uncovered : (first : Bool) → Regs → Res Caller
-uncovered true g = ok (leaf_of g)
-uncovered false g = refuse NoRecord
+uncovered true g = Ok (leaf_of g)
+uncovered false g = Err NoRecord
 
 -- at an offset of a function that covers it: the view (6, 7), the place (9, 10), the codes one by one (8), SP at last (11; RULES 6.3)
 unfoldable pub within : (stack : Lent) → Shape → (offset : ℕ) → Regs → Res Caller
@@ -65,7 +63,7 @@ within k s o g = do
   t ← todo size executing v o
   h ← run (step k) t.codes g
   need (leb g.sp h.sp) SpFell
-  ok (record { regs = returned h; place = t.place; handler = s.handler; codes = length t.codes })
+  Ok (record { regs = returned h; place = t.place; handler = s.handler; codes = length t.codes })
 
 -- by the record found, at the offset of RULES 5.1
 unfoldable pub by_record : (first : Bool) → Inputs → Entry → Regs → Res Caller
@@ -90,10 +88,10 @@ frame_of first t g = do
 abbrev pub frame : Inputs → Regs → Res Caller
 frame t g = frame_of true t g
 
--- the whole answer; a refusal has the registers as they came, place leaf and zeros (RULES 6.7)
+-- the whole answer; a refusal has the registers as they came (RULES 6.7)
 abbrev pub unwound : Regs → Res Caller → Unwound
-unwound g (ok c) = record { verdict = Given; regs = c.regs; place = c.place; handler = c.handler; codes = c.codes }
-unwound g (refuse r) = record { verdict = Refused r; regs = g; place = Leaf; handler = 0; codes = 0 }
+unwound g (Ok c) = record { regs = c.regs; told = Ok (record { place = c.place; handler = c.handler; codes = c.codes }) }
+unwound g (Err r) = record { regs = g; told = Err r }
 
 -- the checks that read the tables alone, 1 and 3: a walk makes them once
 abbrev pub checked : Inputs → Checked

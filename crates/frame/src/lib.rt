@@ -3,39 +3,39 @@
 #![tactic(auto)]
 
 use machine::Regs;
-use pdata::{Checked, Found};
+use pdata::{Checked, Entry};
 
 mod answer; // the caller by the record found
 
 ghost use Rattle.std.specs.Prelude.{◌≡◌, List, ℕ};
-ghost use Rattle.std.proofs.Math.Option.{Option};
 ghost use Rattle.lent.specs.Lent.{lent};
-ghost use Rattle.words.specs.Answer.{Res};
-ghost use Rattle.pdata.specs.declared.Entry.{Entry};
-ghost use Rattle.pdata.specs.Pdata.{found as found_of};
 ghost use Rattle.frame.specs.Frame.{inputs, fit_stack as spec_fit_stack, checked, unwound, after_find as spec_after_find, frame};
 ghost use Rattle.codes.specs.AsCoded.Rows.{row_numbers};
 ghost use Rattle.machine.specs.AsCoded.Answers.{regs};
 ghost use Rattle.frame.specs.AsCoded.FromPlace.{Answers};
 ghost use Rattle.frame.specs.AsCoded.InPlace.{came_to, Comes};
 
-use words::{Place, Refusal, Verdict};
+use words::{Place, Refusal};
 
-// One frame's answer (RULES 6.1). A refusal has the registers as they came, place leaf and zeros (RULES 6.7).
+// What is told of a frame beside its caller's registers (RULES 6.1).
 #[derive(Clone, Copy)]
-pub struct Unwound {
-    pub verdict: Verdict,
-    pub regs: Regs,
+pub struct Told {
     pub place: Place,
     pub handler: u32,
     pub codes: usize,
 }
 
+// One frame's answer (RULES 6.1). A refusal has the registers as they came (RULES 6.7).
+#[derive(Clone, Copy)]
+pub struct Unwound {
+    pub regs: Regs,
+    pub told: Result<Told, Refusal>,
+}
+
 // What a frame came to in place: r0-r12 and d0-d31 are lent and stand as the caller has them, SP and LR are here, and the pc is LR with bit
-// 0 cleared. After a refusal none of them counts.
+// 0 cleared. After a refusal the lent ones do not count.
 #[derive(Clone, Copy)]
 pub struct Came {
-    pub verdict: Verdict,
     pub sp: u32,
     pub lr: u32,
     pub place: Place,
@@ -65,7 +65,7 @@ pub fn check(pdata: &[u8], rva: u32, xdata: &[u8], base: u32, stack: &[u8]) -> C
 fn after_find(
     t: &[u8; 256],
     first: bool,
-    found: Found,
+    found: Result<Option<Entry>, Refusal>,
     image: u32,
     rva: u32,
     xdata: &[u8],
@@ -76,24 +76,24 @@ fn after_find(
     sp: u32,
     lr: u32,
     pc: u32,
-) -> Came
+) -> Result<Came, Refusal>
     requires { t.now ≡ row_numbers }
-    ensures { (p : List ℕ) (x : Res (Option Entry)) → found ≡ found_of x → came_to result r.new d.new ≡ spec_after_find first (inputs image p rva xdata.now base stack.now) (regs r.old sp lr pc d.old) x }
+    ensures { (p : List ℕ) → came_to result r.new d.new ≡ spec_after_find first (inputs image p rva xdata.now base stack.now) (regs r.old sp lr pc d.old) found }
 {
     match found {
-        Found::Refused(why) => answer::refused(why),
-        Found::Nothing => {
+        Err(why) => Err(why),
+        Ok(None) => {
             if machine::stands(base, stack, sp as u64) {
                 return answer::uncovered(first, sp, lr);
             }
-            answer::refused(Refusal::BadStack)
+            Err(Refusal::BadStack)
         }
-        Found::Record(e) => {
+        Ok(Some(e)) => {
             let o = answer::offset_of(image, e.start, pc);
             if machine::stands(base, stack, sp as u64) {
                 return answer::by_word(t, first, rva, xdata, base, stack, e.word, o, r, d, sp, lr);
             }
-            answer::refused(Refusal::BadStack)
+            Err(Refusal::BadStack)
         }
     }
 }
@@ -115,7 +115,7 @@ pub fn frame_in(
     sp: u32,
     lr: u32,
     pc: u32,
-) -> Came
+) -> Result<Came, Refusal>
     requires { t.now ≡ row_numbers }
     ensures { Comes first c (inputs image pdata.now rva xdata.now base stack.now) (regs r.old sp lr pc d.old) result r.new d.new }
 {
@@ -125,35 +125,31 @@ pub fn frame_in(
             t, first, found, image, rva, xdata, base, stack, r, d, sp, lr, pc,
         );
     }
-    answer::refused(Refusal::UnfitInput)
+    Err(Refusal::UnfitInput)
 }
 
 // The whole answer of what a frame came to in place. A refusal has the registers as they came (RULES 6.7).
-fn answered(g: Regs, u: Came, r: [u32; 13], d: [u64; 32]) -> Unwound
+fn answered(g: Regs, u: Result<Came, Refusal>, r: [u32; 13], d: [u64; 32]) -> Unwound
     ensures { result ≡ unwound g (came_to u r d) }
 {
-    let verdict = u.verdict;
-    let place = u.place;
-    match verdict {
-        Verdict::Refused(why) => Unwound {
-            verdict: Verdict::Refused(why),
+    match u {
+        Err(why) => Unwound {
             regs: g,
-            place: Place::Leaf,
-            handler: 0,
-            codes: 0,
+            told: Err(why),
         },
-        Verdict::Given => Unwound {
-            verdict: Verdict::Given,
+        Ok(c) => Unwound {
             regs: Regs {
                 r,
-                sp: u.sp,
-                lr: u.lr,
-                pc: words::even(u.lr),
+                sp: c.sp,
+                lr: c.lr,
+                pc: words::even(c.lr),
                 d,
             },
-            place,
-            handler: u.handler,
-            codes: u.codes,
+            told: Ok(Told {
+                place: c.place,
+                handler: c.handler,
+                codes: c.codes,
+            }),
         },
     }
 }

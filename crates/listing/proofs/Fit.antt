@@ -1,11 +1,11 @@
 -- When a report is unfit (14), and the last lines of a listing.
 -- Assumes nothing.
+use Rattle.std.specs.Prelude.{Err}
 use Prim.Native.Nat.{ℕ}
 use mathlib.Core.Path.{◌≡◌, refl}
 use mathlib.Core.List.{List, [], ◌∷◌, ◌++◌}
 use lib.ListN.{replicate}
 use Rattle.words.specs.declared.Refusal.TheVariants.{UnfitReport}
-use Rattle.words.specs.Answer.{refuse}
 use Rattle.report.specs.Report.{report, mark}
 use Rattle.text.specs.Text.{text}
 use Rattle.listing.specs.Listing.{listing}
@@ -17,19 +17,19 @@ abbrev file : List ℕ → (words : List ℕ) → (pc : ℕ) → (rest : List �
 file m ws pc rest = m ++ bytes_of (ws ++ replicate 15 0 ++ (pc ∷ [])) ++ replicate 256 0 ++ rest
 
 -- nothing at all; a version 2; a byte too many; more records than a file can hold, which does not wrap
-empty : report [] ≡ refuse UnfitReport
+empty : report [] ≡ Err UnfitReport
 unfolding opened
 empty = refl
 
-version : report (file (0x57 ∷ 0x4C ∷ 0x4B ∷ 2 ∷ 0 ∷ 0 ∷ 0 ∷ 0 ∷ []) (replicate 6 0) 0 []) ≡ refuse UnfitReport
+version : report (file (0x57 ∷ 0x4C ∷ 0x4B ∷ 2 ∷ 0 ∷ 0 ∷ 0 ∷ 0 ∷ []) (replicate 6 0) 0 []) ≡ Err UnfitReport
 unfolding opened
 version = refl
 
-more : report (file mark (replicate 6 0) 0 (0 ∷ [])) ≡ refuse UnfitReport
+more : report (file mark (replicate 6 0) 0 (0 ∷ [])) ≡ Err UnfitReport
 unfolding opened
 more = refl
 
-no_wrap : report (file mark (0 ∷ 0x20000000 ∷ replicate 4 0) 0 []) ≡ refuse UnfitReport
+no_wrap : report (file mark (0 ∷ 0x20000000 ∷ replicate 4 0) 0 []) ≡ Err UnfitReport
 unfolding opened
 no_wrap = refl
 

@@ -1,12 +1,12 @@
 -- What the parts of a report come to as a listing.
 -- Assumes nothing.
+use Rattle.std.specs.Prelude.{Ok, Err}
 use Prim.Native.Nat.{ℕ, ◌≤◌}
 use mathlib.Core.Path.{◌≡◌, refl}
 use mathlib.Core.List.{List, ◌++◌}
 use lib.ListN.{length}
 use native.Mathlib.Omega.{arith}
 use Rattle.words.specs.declared.Refusal.{Refusal}
-use Rattle.words.specs.Answer.{ok, refuse}
 use Rattle.walking.specs.Walk.{walk}
 use Rattle.report.specs.Report.{Report, report}
 use Rattle.text.specs.Text.{text}
@@ -16,11 +16,11 @@ use Rattle.text.proofs.Overlaid.{from_start}
 use Rattle.listing.proofs.Sizes.{listing-fits}
 
 -- the listing of a report that was read, and of one that was refused
-pub listing-given : (s : List ℕ) {p : Report} → report s ≡ ok p → printed (walk p.inputs 256 p.regs) ≡ listing s
+pub listing-given : (s : List ℕ) {p : Report} → report s ≡ Ok p → printed (walk p.inputs 256 p.regs) ≡ listing s
 unfolding listing
 listing-given s e = rw e refl
 
-pub listing-refused : (s : List ℕ) {r : Refusal} → report s ≡ refuse r → refused_text r ++ text "\n" ≡ listing s
+pub listing-refused : (s : List ℕ) {r : Refusal} → report s ≡ Err r → refused_text r ++ text "\n" ≡ listing s
 unfolding listing
 listing-refused s e = rw e refl
 

@@ -1,29 +1,28 @@
 -- The walk printed turn by turn is the walk printed: what holds wherever a turn begins, how a turn keeps it, and what it says at the end.
 -- Assumes nothing.
-use Rattle.std.specs.Prelude.{if◌then◌else◌}
+use Rattle.std.specs.Prelude.{Result, Ok, Err}
 use Prim.Native.Nat.{ℕ, ◌+◌, ◌-◌, ◌<◌}
 use mathlib.Core.Path.{◌≡◌, refl, sym, ap, ◌∙◌, subst}
-use mathlib.Core.Bool.{Bool, true, false}
 use mathlib.Core.List.{List, [], ◌∷◌, ◌++◌}
 use lib.ListN.{length, replicate, set}
 use native.Mathlib.Omega.{arith}
 use Rattle.words.specs.declared.Place.TheVariants.{Leaf}
 use Rattle.unwinding.specs.AsCoded.Turn as General
-use Rattle.unwinding.proofs.Turns.{turns}
+use Rattle.unwinding.proofs.Turns.{Turns, turns}
 use Rattle.unwinding.proofs.Looping.{Midway, less, midway-begins, midway-on, fewer, ended-with}
 use Rattle.machine.specs.declared.Regs.{Regs}
 use Rattle.frame.specs.Frame.{Inputs}
 use Rattle.walking.specs.declared.Frame.{Frame}
 use Rattle.walking.specs.declared.Going.{Going}
 use Rattle.walking.specs.declared.Standing.{Standing}
+use Rattle.walking.specs.declared.Stop.{Stop}
 use Rattle.walking.specs.Walk.{arm, frames, walk}
-use Rattle.walking.specs.AsCoded.InPlace.{stands, SmallIn, Goes}
+use Rattle.walking.specs.AsCoded.InPlace.{stands, turning_in, SmallIn, Goes}
 use Rattle.walking.proofs.Turns.{bounded}
 use Rattle.text.specs.Text.{text}
 use Rattle.text.specs.Overlay.{Laid}
 use Rattle.text.proofs.Overlaid.{joined, laid_as}
 use Rattle.listing.specs.Listing.{frame_line, frame_lines, last_of, last_line, printed}
-use Rattle.listing.specs.AsCoded.Turns.{turn_text}
 use Rattle.listing.proofs.Lines.{lines-last}
 
 -- a list with the room of the walk, of which the laws of the walk into a list speak
@@ -37,11 +36,6 @@ pub record Halfway (t : Inputs) (g : Regs) (s : General.Standing arm) (b : List 
   pub list : List Frame
   pub walks : Midway arm (frames t) 1020 g room left s listed list
   pub laid : Laid b at (frame_lines 0 listed) next o
-
--- and behind the last turn: the walk's lines, and the last one
-abbrev pub Printing : (t : Inputs) (g : Regs) (on : Bool) (s : General.Standing arm) (b : List ℕ) (at next : ℕ) (o : List ℕ) → Type 0
-Printing t g true s b i n o = Halfway t g s b i n o
-Printing t g false s b i n o = Laid b i (frame_lines 0 (walk t 256 g).frames ++ last_line (walk t 256 g)) n o
 
 pub printing-begins : (t : Inputs) (s : General.Standing arm) (b : List ℕ) (i : ℕ) → s ≡ General.begun arm s.at → Laid b i [] i b → Halfway t s.at s b i i b
 unfolding frame_lines
@@ -61,50 +55,37 @@ printing-headed t g h k = joined h k
 pub printing-small : (t : Inputs) (g : Regs) {s : General.Standing arm} {b : List ℕ} {i n : ℕ} {o : List ℕ} → Halfway t g s b i n o → SmallIn s
 printing-small t g h = h.walks.small
 
-module _ (t : Inputs) (g : Regs) (p : Standing) (r d : List ℕ) {b : List ℕ} {f n : ℕ} {o : List ℕ} (h : Halfway t g (stands p r d) b f n o) (x : Going) (a e : List ℕ) (k : Goes t 256 (stands p r d) x a e) where
+module _ (t : Inputs) (g : Regs) (p : Standing) (r d : List ℕ) {b : List ℕ} {f n : ℕ} {o : List ℕ} (h : Halfway t g (stands p r d) b f n o) where
   abbrev s : General.Standing arm
   s = stands p r d
 
-  abbrev T : General.Turn arm
-  T = General.turn_of arm (frames t) 256 s
+  met : (x : Result Going Stop) (a e : List ℕ) → Goes t 256 s x a e → Turns arm (frames t) 256 s (turning_in s x a e)
+  met x a e k = subst (Turns arm (frames t) 256 s) (sym k) (turns arm (frames t) 256 s)
 
-  printing-on : {m : ℕ} {u : List ℕ} → x.on ≡ true → Laid o n (turn_text p x) m u → Halfway t g (stands x.next a e) b f m u
-  printing-on {m = m} {u = u} on l =
-      let q : T.on ≡ true = sym k.on ∙ on in
-      let w = midway-on arm (frames t) 1020 h.walks T (turns arm (frames t) 256 s) q (bounded t) in
-      let i : p.frames ≡ 0 + length h.listed = omega (arith, h.walks.many) in
-      record {
-        left = less h.left;
-        listed = h.listed ++ (x.frame ∷ []);
-        list = set h.list p.frames x.frame;
-        walks = rw (k.next on, k.frame) w;
-        laid = laid_as (ap (λ j. frame_lines 0 h.listed ++ frame_line j x.frame) i ∙ lines-last 0 h.listed x.frame) (joined h.laid (rw on at l));
-      }
+  -- a turn that goes on
+  module _ (x : Going) (a e : List ℕ) (k : Goes t 256 s (Ok x) a e) where
+    abbrev y : General.Turn arm
+    y = turning_in s (Ok x) a e
 
-  printing-less : x.on ≡ true → 256 - x.next.frames < 256 - p.frames
-  printing-less on =
-      let q : T.on ≡ true = sym k.on ∙ on in
-      let w = midway-on arm (frames t) 1020 h.walks T (turns arm (frames t) 256 s) q (bounded t) in
-      let f = fewer arm (frames t) 1020 h.walks T (turns arm (frames t) 256 s) q in
-      let i : (stands x.next a e).frames ≡ T.next.frames = ap (λ (z : General.Standing arm). z.frames) (k.next on) in
-      omega (arith, w.room, h.walks.room, f, i)
+    pub printing-on : {m : ℕ} {u : List ℕ} → Laid o n (frame_line p.frames x.frame) m u → Halfway t g (stands x.next a e) b f m u
+    printing-on {m = m} {u = u} l =
+        let i : p.frames ≡ 0 + length h.listed = omega (arith, h.walks.many) in
+        record {
+          left = less h.left;
+          listed = h.listed ++ (x.frame ∷ []);
+          list = set h.list p.frames x.frame;
+          walks = midway-on arm (frames t) 1020 h.walks y (met (Ok x) a e k) refl (bounded t);
+          laid = laid_as (ap (λ j. frame_lines 0 h.listed ++ frame_line j x.frame) i ∙ lines-last 0 h.listed x.frame) (joined h.laid l);
+        }
 
-  printing-ends : {m : ℕ} {u : List ℕ} → x.on ≡ false → Laid o n (turn_text p x) m u → Laid b f (frame_lines 0 (walk t 256 g).frames ++ last_line (walk t 256 g)) m u
-  printing-ends {m = m} {u = u} off l =
-      let w = ended-with arm (frames t) 1020 h.walks T (turns arm (frames t) 256 s) (sym k.on ∙ off) in
-      rw w (laid_as (ap (λ i. frame_lines 0 h.listed ++ last_of T.stop i p.codes) (sym h.walks.many)) (joined h.laid (rw k.stop at (rw off at l))))
+    pub printing-less : 256 - x.next.frames < 256 - p.frames
+    printing-less =
+        let w = midway-on arm (frames t) 1020 h.walks y (met (Ok x) a e k) refl (bounded t) in
+        omega (arith, w.room, h.walks.room, fewer arm (frames t) 1020 h.walks y (met (Ok x) a e k) refl)
 
-  -- either way
-  pub printing-turn : {m : ℕ} {u : List ℕ} → Laid o n (turn_text p x) m u → Printing t g x.on (stands x.next a e) b f m u
-  printing-turn {m = m} {u = u} l = go x.on refl
-    where
-      go : (y : Bool) → x.on ≡ y → Printing t g x.on (stands x.next a e) b f m u
-      go true q = rw q (printing-on q l)
-      go false q = rw q (printing-ends q l)
-
-  pub printing-fewer : (if x.on then 256 - x.next.frames + 1 else 0) < 256 - p.frames + 1
-  printing-fewer = go x.on refl
-    where
-      go : (y : Bool) → x.on ≡ y → (if x.on then 256 - x.next.frames + 1 else 0) < 256 - p.frames + 1
-      go true q = rw q (omega (arith, printing-less q))
-      go false q = rw q (omega arith)
+  -- one that does not
+  pub printing-ends : (stop : Stop) (a e : List ℕ) → Goes t 256 s (Err stop) a e → {m : ℕ} {u : List ℕ} → Laid o n (last_of stop p.frames p.codes) m u
+      → Laid b f (frame_lines 0 (walk t 256 g).frames ++ last_line (walk t 256 g)) m u
+  printing-ends stop a e k l =
+      let w = ended-with arm (frames t) 1020 h.walks (turning_in s (Err stop) a e) (met (Err stop) a e k) refl in
+      rw w (laid_as (ap (λ i. frame_lines 0 h.listed ++ last_of stop i p.codes) (sym h.walks.many)) (joined h.laid l))

@@ -1,5 +1,6 @@
 -- The largest listing: how much room the walk program needs.
 -- Assumes nothing.
+use Rattle.std.specs.Prelude.{Ok, Err}
 use Prim.Native.Nat.{ℕ, ◌+◌, ◌*◌, ◌≤◌, ◌<◌}
 use mathlib.Core.Bool.{true}
 use mathlib.Core.List.{List, [], ◌∷◌, ◌++◌}
@@ -9,7 +10,7 @@ use Rattle.words.specs.Refusals.{number}
 use Rattle.words.specs.declared.Refusal.{Refusal}
 use Rattle.words.specs.declared.Place.{Place}
 use Rattle.words.specs.declared.Place.TheVariants.{Leaf, Prologue, Body, Epilogue}
-use Rattle.words.specs.Answer.{Res, ok, refuse, either}
+use Rattle.words.specs.Answer.{Res, either}
 use Rattle.unwinding.proofs.Walks.{walk-room}
 use Rattle.walking.specs.Walk.{arm, frames, Trail, walk}
 use Rattle.walking.specs.declared.Frame.{Frame}
@@ -62,5 +63,5 @@ unfolding listing
 listing-fits s = go (report s)
   where
     go : (r : Res Report) → length (either r (λ x. refused_text x ++ text "\n") (λ p. printed (walk p.inputs 256 p.regs))) ≤ 8192
-    go (ok p) = printed-length (walk p.inputs 256 p.regs) (walk-room arm (frames p.inputs) 256 true p.regs)
-    go (refuse r) = simp length-append (omega (arith, refused-length r))
+    go (Ok p) = printed-length (walk p.inputs 256 p.regs) (walk-room arm (frames p.inputs) 256 true p.regs)
+    go (Err r) = simp length-append (omega (arith, refused-length r))

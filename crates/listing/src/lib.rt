@@ -15,7 +15,7 @@ use machine::Regs;
 use report::{Parts, read_report};
 use text::{put_addresses, put_byte, put_count, put_decimal, put_hex8, put_text, put_word};
 use walking::{Frame, Going, Standing, Stop};
-use words::{Place, Refusal, Verdict};
+use words::{Place, Refusal};
 
 // The largest listing (RULES 8.7).
 pub const LISTING_BYTES: usize = 8192;
@@ -81,15 +81,13 @@ fn put_last(out: &mut [u8], at: usize, stop: Stop, frames: usize, codes: usize) 
 }
 
 // What a turn of the walk prints: the frame's line, or the last one.
-pub fn put_turn(out: &mut [u8], at: usize, s: Standing, x: Going) -> usize
+pub fn put_turn(out: &mut [u8], at: usize, s: Standing, x: Result<Going, Stop>) -> usize
     ensures { Laid out.old at (turn_text s x) result out.new }
 {
-    let stop = x.stop;
-    let frame = x.frame;
-    if x.on {
-        return put_frame(out, at, s.frames, frame);
+    match x {
+        Ok(going) => put_frame(out, at, s.frames, going.frame),
+        Err(stop) => put_last(out, at, stop, s.frames, s.codes),
     }
-    put_last(out, at, stop, s.frames, s.codes)
 }
 
 // The walk, each frame's line as it is found: no list of frames is needed.
@@ -111,16 +109,16 @@ fn put_walk(
     let mut d = g.d;
     let mut s = walking::stand(g, false, 0, 0);
     let mut next = put_text(out, 0, b"frame pc sp place\n");
-    let mut on = true;
-    while on {
+    loop {
         let x = walking::turn_in(
             &rows, c, image, pdata, rva, xdata, base, stack, &mut r, &mut d, s, 256,
         );
         next = put_turn(out, next, s, x);
-        on = x.on;
-        s = x.next;
+        match x {
+            Ok(going) => s = going.next,
+            Err(_) => return next,
+        }
     }
-    next
 }
 
 // The walk over a report's parts.
@@ -158,10 +156,8 @@ pub fn list_report(file: &[u8], out: &mut [u8]) -> usize
     ensures value { (result ≡ length (listing file.now)) × (out.new ≡ overlay out.old 0 (listing file.now)) }
     ensures upper_bound { result ≤ 8192 }
 {
-    let p = read_report(file);
-    let verdict = p.verdict;
-    match verdict {
-        Verdict::Given => list_parts(file, p, out),
-        Verdict::Refused(refusal) => put_refusal(out, refusal),
+    match read_report(file) {
+        Ok(p) => list_parts(file, p, out),
+        Err(refusal) => put_refusal(out, refusal),
     }
 }

@@ -1,5 +1,4 @@
 pub mod Opened
-pub mod Answers
 pub mod Loading
 pub mod Popping
 pub mod Listed

@@ -1,5 +1,6 @@
 -- The words of a list: one more for a register that is listed, and no more than there are registers. A pop takes them all, or is refused.
 -- Assumes nothing.
+use Rattle.std.specs.Prelude.{Ok, Err}
 use Prim.Native.Nat.{ℕ, zero, suc, ◌+◌, ◌-◌, ◌*◌, ◌≤◌, ◌<◌}
 use mathlib.Core.Path.{◌≡◌, refl, sym, ap, ◌∙◌}
 use mathlib.Core.Bool.{Bool, true, false}
@@ -7,7 +8,7 @@ use mathlib.Core.Logic.{◌⊎◌, inl, inr, ⊎_elim}
 use native.Mathlib.Omega.{arith}
 use Rattle.words.specs.Bits.{bit}
 use Rattle.words.specs.declared.Refusal.TheVariants.{BadStack}
-use Rattle.words.specs.Answer.{Res, ok, refuse, ◌>>=◌}
+use Rattle.words.specs.Answer.{Res, ◌>>=◌}
 use Rattle.lent.specs.Lent.{Lent, end, holds}
 use Rattle.machine.specs.Step.{pop}
 use Rattle.machine.specs.AsCoded.Listed.{words_listed}
@@ -55,9 +56,9 @@ module _ (l : ℕ) where
 module _ (k : Lent) (l : ℕ) (g : Regs) where
   abbrev Ends : ℕ → Type 0
   Ends n =
-      (pop k l n g ≡ refuse BadStack)
+      (pop k l n g ≡ Err BadStack)
       ⊎ ((h : Regs)
-      × (pop k l n g ≡ ok h)
+      × (pop k l n g ≡ Ok h)
       × (h.sp ≡ g.sp + 4 * words_listed l n)
       × (0 < words_listed l n → (k.base ≤ g.sp) × (g.sp + 4 * words_listed l n ≤ end k)))
 
@@ -69,7 +70,7 @@ module _ (k : Lent) (l : ℕ) (g : Regs) where
       next e = pop_next k l g n ∙ ap (λ x. x >>= listed k l n) e
 
       go :
-          (h : Regs) → pop k l n g ≡ ok h → h.sp ≡ g.sp + 4 * words_listed l n
+          (h : Regs) → pop k l n g ≡ Ok h → h.sp ≡ g.sp + 4 * words_listed l n
           → (0 < words_listed l n → (k.base ≤ g.sp) × (g.sp + 4 * words_listed l n ≤ end k))
           → (b : Bool) → bit n l ≡ b → (t : Bool) → holds k h.sp 4 ≡ t → Ends (suc n)
       go h e s w false b t q =
@@ -85,18 +86,18 @@ module _ (k : Lent) (l : ℕ) (g : Regs) where
           above (suc x) s r w = (w (omega arith)).0
       go h e s w true b false q = inl (next e ∙ listed-refused k l n h.r h.sp h.lr h.pc h.d _ b (load-none k h.sp q))
 
-  pub pop-short : (n : ℕ) → holds k g.sp (4 * words_listed l n) ≡ false → 0 < words_listed l n → pop k l n g ≡ refuse BadStack
+  pub pop-short : (n : ℕ) → holds k g.sp (4 * words_listed l n) ≡ false → 0 < words_listed l n → pop k l n g ≡ Err BadStack
   pop-short n none some =
       ⊎_elim (λ e. e)
       (λ w. let r = w.3 some in let y = holding k g.sp (4 * words_listed l n) r.0 r.1 in absurd (let z : ◌≡◌ {A = ℕ} 0 1 = cc in omega arith))
       (ends n)
 
   -- a list of no register pops nothing
-  pub pop-nothing : (n : ℕ) → words_listed l n ≡ 0 → pop k l n g ≡ ok g
+  pub pop-nothing : (n : ℕ) → words_listed l n ≡ 0 → pop k l n g ≡ Ok g
   pop-nothing zero z = pop-none k l g
   pop-nothing (suc n) z = go (bit n l) refl (λ y. pop-nothing n y)
     where
-      go : (b : Bool) → bit n l ≡ b → (words_listed l n ≡ 0 → pop k l n g ≡ ok g) → pop k l (suc n) g ≡ ok g
+      go : (b : Bool) → bit n l ≡ b → (words_listed l n ≡ 0 → pop k l n g ≡ Ok g) → pop k l (suc n) g ≡ Ok g
       go true b before = absurd (omega (arith, words-with l n b, z))
       go false b before =
           pop_next k l g n ∙ ap (λ x. x >>= listed k l n) (before (sym (words-without l n b) ∙ z)) ∙ listed-not k l n g.r g.sp g.lr g.pc g.d _ _ _ b refl refl refl

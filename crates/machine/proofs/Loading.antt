@@ -1,5 +1,6 @@
 -- A word is loaded exactly where it lies wholly in the lent stack.
 -- Assumes nothing.
+use Rattle.std.specs.Prelude.{Ok, Err}
 use Prim.Native.Nat.{ℕ, ◌+◌, ◌-◌, ◌≤◌}
 use mathlib.Core.Path.{◌≡◌, refl, ap, ◌∙◌}
 use mathlib.Core.Bool.{Bool, true, false}
@@ -12,7 +13,6 @@ use Rattle.words.proofs.Tests.{both}
 use Rattle.lent.specs.Lent.{Lent, lent, end, holds, word_at}
 use Rattle.lent.specs.Little.{word32}
 use Rattle.words.specs.declared.Refusal.TheVariants.{BadStack}
-use Rattle.words.specs.Answer.{ok, refuse}
 use Rattle.machine.specs.Step.{load}
 
 -- bytes that are lent, by where they begin and end
@@ -24,15 +24,15 @@ module _ (k : Lent) (a n : ℕ) where
   holding p q = rw (le-leb _ _ p, le-leb _ _ q) refl
 
 module _ (k : Lent) (a : ℕ) where
-  pub load-held : holds k a 4 ≡ true → load k a ≡ ok (word_at k a)
+  pub load-held : holds k a 4 ≡ true → load k a ≡ Ok (word_at k a)
   unfolding load
   load-held e = rw e refl
 
-  pub load-none : holds k a 4 ≡ false → load k a ≡ refuse BadStack
+  pub load-none : holds k a 4 ≡ false → load k a ≡ Err BadStack
   unfolding load
   load-none e = rw e refl
 
-  pub load_inside : (w : ℕ) → load k a ≡ ok w → (k.base ≤ a) × (a + 4 ≤ end k)
+  pub load_inside : (w : ℕ) → load k a ≡ Ok w → (k.base ≤ a) × (a + 4 ≤ end k)
   load_inside w e = go (holds k a 4) refl
     where
       go : (t : Bool) → holds k a 4 ≡ t → (k.base ≤ a) × (a + 4 ≤ end k)
@@ -40,7 +40,7 @@ module _ (k : Lent) (a : ℕ) where
       go false p = absurd (let f = load-none p in let z : ◌≡◌ {A = ℕ} 0 1 = cc in omega arith)
 
 -- the word at an offset
-pub load_at : (b : ℕ) (s : List ℕ) (o : ℕ) → o + 4 ≤ length s → load (lent b s) (b + o) ≡ ok (word32 s o)
+pub load_at : (b : ℕ) (s : List ℕ) (o : ℕ) → o + 4 ≤ length s → load (lent b s) (b + o) ≡ Ok (word32 s o)
 load_at b s o h =
     let z : b + o - b ≡ o = omega arith in
-    load-held (lent b s) (b + o) (holding (lent b s) (b + o) 4 (omega arith) (omega arith)) ∙ ap (λ i. ok (word32 s i)) z
+    load-held (lent b s) (b + o) (holding (lent b s) (b + o) 4 (omega arith) (omega arith)) ∙ ap (λ i. Ok (word32 s i)) z

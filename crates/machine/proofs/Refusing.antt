@@ -1,13 +1,13 @@
 -- A code is refused by nothing but the stack, number 8 (RULES 3.9, 3.10).
 -- Assumes nothing.
-use Rattle.std.specs.Prelude.{if◌then◌else◌}
+use Rattle.std.specs.Prelude.{if◌then◌else◌, Ok, Err}
 use Prim.Native.Nat.{ℕ, zero, suc, ◌+◌, ◌-◌}
 use mathlib.Core.Path.{◌≡◌, refl, subst}
 use mathlib.Core.Bool.{Bool, true, false}
 use Rattle.words.specs.Bits.{bit}
 use Rattle.words.specs.declared.Refusal.{Refusal}
 use Rattle.words.specs.declared.Refusal.TheVariants.{BadStack}
-use Rattle.words.specs.Answer.{Res, ok, refuse, ◌>>=◌, ◌>>◌, need}
+use Rattle.words.specs.Answer.{Res, ◌>>=◌, ◌>>◌, need}
 use Rattle.lent.specs.Lent.{Lent, holds}
 use Rattle.codes.specs.declared.Code.{Code}
 use Rattle.codes.specs.declared.Undo.{Undo}
@@ -16,12 +16,12 @@ use Rattle.machine.specs.Step.{stands, load, pop_reg, pop_d, pop, vpop, effect, 
 use Rattle.machine.specs.declared.Regs.{Regs}
 
 abbrev Only : {A : Type 0} → Res A → Type 0
-Only (ok a) = Unit {0}
-Only (refuse r) = r ≡ BadStack
+Only (Ok a) = Unit {0}
+Only (Err r) = r ≡ BadStack
 
 bound : {A B : Type 0} (x : Res A) (f : A → Res B) → Only x → ((a : A) → Only (f a)) → Only (x >>= f)
-bound (ok a) f h g = g a
-bound (refuse r) f h g = h
+bound (Ok a) f h g = g a
+bound (Err r) f h g = h
 
 needed : {A : Type 0} (b : Bool) (y : Res A) → Only y → Only (need b BadStack >> y)
 needed true y h = h
@@ -32,7 +32,7 @@ module _ (k : Lent) where
   unfolding load
   load-only a = needed (holds k a 4) _ tt
 
-  listed-only : (b : Bool) (x : ℕ) (h : Regs) → Only (if b then pop_reg k x h else ok h)
+  listed-only : (b : Bool) (x : ℕ) (h : Regs) → Only (if b then pop_reg k x h else Ok h)
   unfolding pop_reg
   listed-only true x h = bound (load k h.sp) _ (load-only h.sp) (λ w. tt)
   listed-only false x h = tt
@@ -63,5 +63,5 @@ module _ (k : Lent) where
   unfolding step
   step-only c g = bound (effect k c.undo g) _ (effect-only c.undo g) (λ h. needed (stands k h.sp) _ tt)
 
-  pub step-refused : (c : Code) (g : Regs) (r : Refusal) → step k c g ≡ refuse r → r ≡ BadStack
+  pub step-refused : (c : Code) (g : Regs) (r : Refusal) → step k c g ≡ Err r → r ≡ BadStack
   step-refused c g r e = subst Only e (step-only c g)

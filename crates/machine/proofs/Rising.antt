@@ -1,6 +1,7 @@
 -- A pop register by register: one that is listed takes the word behind those of the listed registers below it, so the lowest has the lowest
 -- address; all else stays, and SP stands behind the words.
 -- Assumes nothing.
+use Rattle.std.specs.Prelude.{Ok, Err}
 use Prim.Native.Nat.{ℕ, zero, suc, ◌+◌, ◌*◌, ◌<◌}
 use mathlib.Core.Path.{◌≡◌, refl, sym, ap, subst, ◌∙◌}
 use mathlib.Core.Bool.{Bool, true, false}
@@ -11,7 +12,7 @@ use native.Mathlib.Omega.{arith}
 use borrow.Author.Tests.{eqb-true, eqb-false}
 use Rattle.words.specs.Bits.{bit}
 use Rattle.words.specs.declared.Refusal.TheVariants.{BadStack}
-use Rattle.words.specs.Answer.{Res, ok, refuse, ◌>>=◌}
+use Rattle.words.specs.Answer.{Res, ◌>>=◌}
 use Rattle.lent.specs.Lent.{Lent, holds, word_at}
 use Rattle.machine.specs.Registers.{reg, set_reg, set_sp}
 use Rattle.machine.specs.Step.{pop_reg, pop}
@@ -71,23 +72,23 @@ module _ (k : Lent) (l : ℕ) (g : Regs) where
           let other = eqb-false x n e in
           reg-other h n x (word_at k h.sp) other ∙ p.taken x (omega (arith, other)) c q
 
-  reg-held : (i : Regs) (n : ℕ) → holds k i.sp 4 ≡ true → pop_reg k n i ≡ ok (after i n)
+  reg-held : (i : Regs) (n : ℕ) → holds k i.sp 4 ≡ true → pop_reg k n i ≡ Ok (after i n)
   unfolding pop_reg
   reg-held i n w = rw (load-held k i.sp w) refl
 
-  reg-refused : (i : Regs) (n : ℕ) → holds k i.sp 4 ≡ false → pop_reg k n i ≡ refuse BadStack
+  reg-refused : (i : Regs) (n : ℕ) → holds k i.sp 4 ≡ false → pop_reg k n i ≡ Err BadStack
   unfolding pop_reg
   reg-refused i n w = rw (load-none k i.sp w) refl
 
-  pub pop-rising : (n : ℕ) (h : Regs) → pop k l n g ≡ ok h → Popped n h
+  pub pop-rising : (n : ℕ) (h : Regs) → pop k l n g ≡ Ok h → Popped n h
   pop-rising zero h e = let z : g ≡ h = cc (pop-none k l g) in subst (Popped 0) z none
   pop-rising (suc n) h e = go (pop k l n g) refl (λ i q. pop-rising n i q)
     where
-      turn : (i : Regs) → Popped n i → listed k l n i ≡ ok h → (t : Bool) → bit n l ≡ t → (s : Bool) → holds k i.sp 4 ≡ s → Popped (suc n) h
+      turn : (i : Regs) → Popped n i → listed k l n i ≡ Ok h → (t : Bool) → bit n l ≡ t → (s : Bool) → holds k i.sp 4 ≡ s → Popped (suc n) h
       turn i p q false b s w = let q' = rw b at q in let z : i ≡ h = cc in subst (Popped (suc n)) z (passed n i p b)
       turn i p q true b true w = let q' = rw b at q in let z : after i n ≡ h = cc (reg-held i n w) in subst (Popped (suc n)) z (took n i p b)
       turn i p q true b false w = absurd (let q' = rw b at q in let z : ◌≡◌ {A = ℕ} 0 1 = cc (reg-refused i n w) in omega arith)
 
-      go : (r : Res Regs) → pop k l n g ≡ r → ((i : Regs) → pop k l n g ≡ ok i → Popped n i) → Popped (suc n) h
-      go (ok i) q ih = turn i (ih i q) (sym (pop_next k l g n ∙ ap (λ x. x >>= listed k l n) q) ∙ e) (bit n l) refl (holds k i.sp 4) refl
-      go (refuse r) q ih = absurd (let z : ◌≡◌ {A = ℕ} 0 1 = cc (pop_next k l g n ∙ ap (λ x. x >>= listed k l n) q) in omega arith)
+      go : (r : Res Regs) → pop k l n g ≡ r → ((i : Regs) → pop k l n g ≡ Ok i → Popped n i) → Popped (suc n) h
+      go (Ok i) q ih = turn i (ih i q) (sym (pop_next k l g n ∙ ap (λ x. x >>= listed k l n) q) ∙ e) (bit n l) refl (holds k i.sp 4) refl
+      go (Err r) q ih = absurd (let z : ◌≡◌ {A = ℕ} 0 1 = cc (pop_next k l g n ∙ ap (λ x. x >>= listed k l n) q) in omega arith)

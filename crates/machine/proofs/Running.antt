@@ -1,5 +1,6 @@
 -- Running the codes from an index on: by the code that stands there, and where the code list is known.
 -- Assumes nothing.
+use Rattle.std.specs.Prelude.{Ok, Err}
 use Prim.Native.Nat.{ℕ, ◌+◌}
 use mathlib.Core.Path.{◌≡◌, refl, sym, ap, ◌∙◌}
 use mathlib.Core.List.{List}
@@ -11,7 +12,7 @@ use Rattle.words.specs.declared.CodeBytes.{CodeBytes}
 use Rattle.words.specs.declared.Halfwords.{Halfwords}
 use Rattle.words.specs.declared.Refusal.{Refusal}
 use Rattle.words.specs.declared.Refusal.TheVariants.{BadCodes}
-use Rattle.words.specs.Answer.{Res, ok, refuse, ◌>>=◌, ◌>>◌}
+use Rattle.words.specs.Answer.{Res, ◌>>=◌, ◌>>◌}
 use Rattle.unwinding.specs.CodeList.{Codes, run}
 use Rattle.words.proofs.Answers.{bind_assoc, bind-same}
 use Rattle.unwinding.proofs.Running.{run-empty, run_step}
@@ -26,7 +27,7 @@ use Rattle.machine.specs.declared.Regs.{Regs}
 
 -- the codes of a scan, and then its end
 abbrev through : Lent → Regs → Scan Code → Res Regs
-through k g z = run (step k) z.list g >>= λ h. z.ending >> ok h
+through k g z = run (step k) z.list g >>= λ h. z.ending >> Ok h
 
 module _ (k : Lent) (s : List ℕ) (i : CodeBytes) (g : Regs) where
   -- a run is its first code, and a run of those behind it (RULES 3.15)
@@ -34,20 +35,20 @@ module _ (k : Lent) (s : List ℕ) (i : CodeBytes) (g : Regs) where
   unfolding run_at
   run-first c next e =
       ap (through k g) (scan-by s i e)
-      ∙ ap (λ x. x >>= λ h. (scan s next).ending >> ok h) (run_step (step k) c (scan s next).list g)
-      ∙ bind_assoc (step k c g) (λ t. run (step k) (scan s next).list t) (λ h. (scan s next).ending >> ok h)
+      ∙ ap (λ x. x >>= λ h. (scan s next).ending >> Ok h) (run_step (step k) c (scan s next).list g)
+      ∙ bind_assoc (step k c g) (λ t. run (step k) (scan s next).list t) (λ h. (scan s next).ending >> Ok h)
 
-  pub first-given : (c : Code) (next : CodeBytes) (h : Regs) → take_at s i ≡ One c next → step k c g ≡ ok h → run_at k s i g ≡ run_at k s next h
+  pub first-given : (c : Code) (next : CodeBytes) (h : Regs) → take_at s i ≡ One c next → step k c g ≡ Ok h → run_at k s i g ≡ run_at k s next h
   first-given c next h e f = run-first c next e ∙ ap (λ x. x >>= λ t. run_at k s next t) f
 
-  pub first-refused : (c : Code) (next : CodeBytes) (r : Refusal) → take_at s i ≡ One c next → step k c g ≡ refuse r → run_at k s i g ≡ refuse r
+  pub first-refused : (c : Code) (next : CodeBytes) (r : Refusal) → take_at s i ≡ One c next → step k c g ≡ Err r → run_at k s i g ≡ Err r
   first-refused c next r e f = run-first c next e ∙ ap (λ x. x >>= λ t. run_at k s next t) f
 
-  pub run-last : (n : Halfwords) → take_at s i ≡ Last n → run_at k s i g ≡ ok g
+  pub run-last : (n : Halfwords) → take_at s i ≡ Last n → run_at k s i g ≡ Ok g
   unfolding run_at
   run-last n e = ap (through k g) (scan-by s i e) ∙ rw (run-empty (step k) g) refl
 
-  pub run-bad : (j : CodeBytes) → take_at s i ≡ Bad j → run_at k s i g ≡ refuse (BadCodes j)
+  pub run-bad : (j : CodeBytes) → take_at s i ≡ Bad j → run_at k s i g ≡ Err (BadCodes j)
   unfolding run_at
   run-bad j e = ap (through k g) (scan-by s i e) ∙ rw (run-empty (step k) g) refl
 
@@ -61,17 +62,17 @@ pub count-last : (s : List ℕ) (i : CodeBytes) (n : Halfwords) → take_at s i 
 count-last s i n e = ap (λ z. length z.list) (scan-by s i e)
 
 -- where the code bytes hold a whole code list, running them is running the list
-bind_ok : {A : Type 0} (x : Res A) → (x >>= λ a. ok a) ≡ x
-bind_ok (ok a) = refl
-bind_ok (refuse r) = refl
+bind_ok : {A : Type 0} (x : Res A) → (x >>= λ a. Ok a) ≡ x
+bind_ok (Ok a) = refl
+bind_ok (Err r) = refl
 
 whole :
-    (l : List Code) (x : Res ℕ) (c : Codes Code) → (x >>= λ n. ok (record { list = l; end_size = n })) ≡ ok c
-    → (l ≡ c.list) × ((h : Regs) → (x >> ok h) ≡ ok h)
-whole l (ok n) c e = let same : record { list = l; end_size = n } ≡ c = cc in (ap (λ d. d.list) same, λ h. refl)
-whole l (refuse r) c e = absurd (let z : ◌≡◌ {A = ℕ} 0 1 = cc in omega arith)
+    (l : List Code) (x : Res ℕ) (c : Codes Code) → (x >>= λ n. Ok (record { list = l; end_size = n })) ≡ Ok c
+    → (l ≡ c.list) × ((h : Regs) → (x >> Ok h) ≡ Ok h)
+whole l (Ok n) c e = let same : record { list = l; end_size = n } ≡ c = cc in (ap (λ d. d.list) same, λ h. refl)
+whole l (Err r) c e = absurd (let z : ◌≡◌ {A = ℕ} 0 1 = cc in omega arith)
 
-module _ (s : List ℕ) (i : CodeBytes) (c : Codes Code) (e : codes_at s i ≡ ok c) where
+module _ (s : List ℕ) (i : CodeBytes) (c : Codes Code) (e : codes_at s i ≡ Ok c) where
   codes-list : (scan s i).list ≡ c.list
   codes-list = (whole (scan s i).list (scan s i).ending c e).0
 
@@ -79,6 +80,6 @@ module _ (s : List ℕ) (i : CodeBytes) (c : Codes Code) (e : codes_at s i ≡ o
   unfolding run_at
   run-codes k g =
       let x = run (step k) (scan s i).list g in
-      bind-same x (λ h. (scan s i).ending >> ok h) (λ h. ok h) (whole (scan s i).list (scan s i).ending c e).1
+      bind-same x (λ h. (scan s i).ending >> Ok h) (λ h. Ok h) (whole (scan s i).list (scan s i).ending c e).1
       ∙ bind_ok x
       ∙ ap (λ l. run (step k) l g) codes-list

@@ -2,18 +2,18 @@
 // `run_in` that the table lent to it is that of `codes::row_table`.
 #![tactic(auto)]
 
-ghost use Rattle.std.specs.Prelude.{◌≡◌, List, true, ℕ, ◌+◌, ◌-◌, ◌*◌, ◌<◌, ◌≤◌, ◌^◌, eqb, length, get_or, set, if◌then◌else◌};
+ghost use Rattle.std.specs.Prelude.{◌≡◌, List, true, ℕ, ◌+◌, ◌-◌, ◌*◌, ◌<◌, ◌≤◌, eqb, length, get_or, set, if◌then◌else◌, Ok, IfOk};
 ghost use Rattle.words.specs.Bits.{bit};
 ghost use Rattle.lent.specs.Lent.{lent, holds as holds_of};
 ghost use Rattle.codes.specs.Code.{scan};
 ghost use Rattle.codes.specs.AsCoded.Rows.{row_numbers};
 ghost use Rattle.machine.specs.Step.{stands as stands_of, load as load_of, pop as pop_of, vpop as vpop_of, effect as effect_of, step as step_of};
-ghost use Rattle.machine.specs.AsCoded.Answers.{loaded, loaded_two, regs, came, outcome, Counted};
+ghost use Rattle.machine.specs.AsCoded.Answers.{load_two as load_two_of, regs, came};
 ghost use Rattle.machine.specs.AsCoded.Listed.{words_listed as spec_words_listed};
 ghost use Rattle.machine.specs.AsCoded.Run.{run_at};
 
 use codes::{Code, Taken, Undo};
-use words::{CodeBytes, Refusal, StackWords, Verdict};
+use words::{CodeBytes, Refusal, StackWords};
 
 // The registers of RULES 1.1.
 #[derive(Clone, Copy)]
@@ -25,27 +25,12 @@ pub struct Regs {
     pub d: [u64; 32],
 }
 
-// A word of the stack.
-#[derive(Clone, Copy)]
-pub enum Loaded {
-    Word(u32),
-    Refused(Refusal),
-}
-
-// Two words of the stack, the lower first.
-#[derive(Clone, Copy)]
-enum LoadedTwo {
-    Words(u32, u32),
-    Refused(Refusal),
-}
-
 // Codes are undone in place, since the registers are long: r0-r12 and d0-d31 in lists that are lent, SP and LR by value. After a refusal
 // none of them counts.
 
 // What undoing came to before SP is looked at, which may be past 2^32.
 #[derive(Clone, Copy)]
 struct Undone {
-    verdict: Verdict,
     sp: u64,
     lr: u32,
 }
@@ -53,7 +38,6 @@ struct Undone {
 // What a code came to, where SP stands.
 #[derive(Clone, Copy)]
 struct Stood {
-    verdict: Verdict,
     sp: u32,
     lr: u32,
 }
@@ -61,7 +45,6 @@ struct Stood {
 // What the codes from an index on came to, and how many were run.
 #[derive(Clone, Copy)]
 pub struct Ended {
-    pub verdict: Verdict,
     pub sp: u32,
     pub lr: u32,
     pub codes: usize,
@@ -93,12 +76,12 @@ fn set_reg(r: &mut [u32], lr: u32, x: usize, w: u32) -> u32
     lr
 }
 
-// Two words, the lower first, go to a d register.
-fn set_d(d: &mut [u64], x: usize, low: u32, high: u32)
-    ensures { d.new ≡ set d.old x (low + 2 ^ 32 * high) }
+// Two words, as one, go to a d register.
+fn set_d(d: &mut [u64], x: usize, w: u64)
+    ensures { d.new ≡ set d.old x w }
 {
     if x < d.len() {
-        d[x] = (low as u64) + 4294967296 * (high as u64);
+        d[x] = w;
     }
 }
 
@@ -121,37 +104,22 @@ pub fn stands(base: u32, stack: &[u8], sp: u64) -> bool
 }
 
 // The word at an address, refused unless all of it is lent (RULES 3.10).
-pub fn load(base: u32, stack: &[u8], at: u64) -> Loaded
-    ensures { result ≡ loaded (load_of (lent base stack.now) at) }
+pub fn load(base: u32, stack: &[u8], at: u64) -> Result<u32, Refusal>
+    ensures { result ≡ load_of (lent base stack.now) at }
 {
-    if lent::holds(base, stack, at, 4) {
-        return Loaded::Word(lent::word32_in(stack, (at - base as u64) as usize));
+    if !lent::holds(base, stack, at, 4) {
+        return Err(Refusal::BadStack);
     }
-    Loaded::Refused(Refusal::BadStack)
+    Ok(lent::word32_in(stack, (at - base as u64) as usize))
 }
 
-// The two words at an address.
-fn load_two(base: u32, stack: &[u8], at: u64) -> LoadedTwo
-    ensures { result ≡ loaded_two (load_of (lent base stack.now) at) (load_of (lent base stack.now) (at + 4)) }
+// The two words at an address, the lower first.
+fn load_two(base: u32, stack: &[u8], at: u64) -> Result<u64, Refusal>
+    ensures { result ≡ load_two_of (lent base stack.now) at }
 {
-    match load(base, stack, at) {
-        Loaded::Word(low) => match load(base, stack, at + 4) {
-            Loaded::Word(high) => LoadedTwo::Words(low, high),
-            Loaded::Refused(why) => LoadedTwo::Refused(why),
-        },
-        Loaded::Refused(why) => LoadedTwo::Refused(why),
-    }
-}
-
-// SP moves, and nothing else.
-fn moved(sp: u64, lr: u32) -> Undone
-    ensures { result ≡ record { verdict = Verdict.Given; sp = sp; lr = lr } }
-{
-    Undone {
-        verdict: Verdict::Given,
-        sp,
-        lr,
-    }
+    let low = load(base, stack, at)?;
+    let high = load(base, stack, at + 4)?;
+    Ok((low as u64) + 4294967296 * (high as u64))
 }
 
 // Whether a list has the register of a number.
@@ -187,7 +155,7 @@ fn room(list: u32, sp: u32, base: u32, stack: &[u8]) -> bool
 // caller has asked `room`.
 fn pop_in(list: u32, r: &mut [u32; 13], sp: u32, lr: u32, base: u32, stack: &[u8]) -> Undone
     requires { holds_of (lent base stack.now) sp (4 * spec_words_listed list 15) ≡ true }
-    ensures { (pc : ℕ) (d : List ℕ) → came result.verdict (regs r.new result.sp result.lr pc d) ≡ pop_of (lent base stack.now) list 15 (regs r.old sp lr pc d) }
+    ensures { (pc : ℕ) (d : List ℕ) → pop_of (lent base stack.now) list 15 (regs r.old sp lr pc d) ≡ Ok (regs r.new result.sp result.lr pc d) }
 {
     let mut o = (sp - base) as usize;
     let mut back = lr;
@@ -197,71 +165,70 @@ fn pop_in(list: u32, r: &mut [u32; 13], sp: u32, lr: u32, base: u32, stack: &[u8
             o = o + 4;
         }
     }
-    moved((base as u64) + (o as u64), back)
+    Undone {
+        sp: (base as u64) + (o as u64),
+        lr: back,
+    }
 }
 
 // Pops a list, or refuses if some word of it is not lent.
-fn pop(list: u32, r: &mut [u32; 13], sp: u32, lr: u32, base: u32, stack: &[u8]) -> Undone
-    ensures { (pc : ℕ) (d : List ℕ) → came result.verdict (regs r.new result.sp result.lr pc d) ≡ pop_of (lent base stack.now) list 15 (regs r.old sp lr pc d) }
+fn pop(
+    list: u32,
+    r: &mut [u32; 13],
+    sp: u32,
+    lr: u32,
+    base: u32,
+    stack: &[u8],
+) -> Result<Undone, Refusal>
+    ensures { (pc : ℕ) (d : List ℕ) → came result (λ u. regs r.new u.sp u.lr pc d) ≡ pop_of (lent base stack.now) list 15 (regs r.old sp lr pc d) }
 {
     if room(list, sp, base, stack) {
-        return pop_in(list, r, sp, lr, base, stack);
+        return Ok(pop_in(list, r, sp, lr, base, stack));
     }
     if words_listed(list) == 0 {
-        return moved(sp as u64, lr);
+        return Ok(Undone { sp: sp as u64, lr });
     }
-    Undone {
-        verdict: Verdict::Refused(Refusal::BadStack),
-        sp: sp as u64,
-        lr,
-    }
+    Err(Refusal::BadStack)
 }
 
 // Pops dS to dE by rising number (RULES 3.12).
-fn vpop(s: u32, e: u32, d: &mut [u64; 32], sp: u32, lr: u32, base: u32, stack: &[u8]) -> Undone
-    ensures { (r : List ℕ) (pc : ℕ) → came result.verdict (regs r result.sp result.lr pc d.new) ≡ vpop_of (lent base stack.now) s (e + 1 - s) (regs r sp lr pc d.old) }
+fn vpop(
+    s: u32,
+    e: u32,
+    d: &mut [u64; 32],
+    sp: u32,
+    lr: u32,
+    base: u32,
+    stack: &[u8],
+) -> Result<Undone, Refusal>
+    ensures { (r : List ℕ) (pc : ℕ) → came result (λ u. regs r u.sp u.lr pc d.new) ≡ vpop_of (lent base stack.now) s (e + 1 - s) (regs r sp lr pc d.old) }
 {
     let mut at = sp as u64;
     for x in (s as usize)..(e as usize) + 1 {
-        match load_two(base, stack, at) {
-            LoadedTwo::Words(low, high) => set_d(d, x, low, high),
-            LoadedTwo::Refused(why) => {
-                return Undone {
-                    verdict: Verdict::Refused(why),
-                    sp: at,
-                    lr,
-                };
-            }
-        }
+        let w = load_two(base, stack, at)?;
+        set_d(d, x, w);
         at = at + 8;
     }
-    Undone {
-        verdict: Verdict::Given,
-        sp: at,
-        lr,
-    }
+    Ok(Undone { sp: at, lr })
 }
 
 // LR takes the word at SP, and SP moves by an amount (RULES 3.14).
-fn load_lr(n: StackWords, r: &mut [u32; 13], sp: u32, lr: u32, base: u32, stack: &[u8]) -> Undone
-    ensures { (pc : ℕ) (d : List ℕ) → came result.verdict (regs r.new result.sp result.lr pc d) ≡ effect_of (lent base stack.now) (Undo.LoadLr n) (regs r.old sp lr pc d) }
+fn load_lr(
+    n: StackWords,
+    r: &mut [u32; 13],
+    sp: u32,
+    lr: u32,
+    base: u32,
+    stack: &[u8],
+) -> Result<Undone, Refusal>
+    ensures { (pc : ℕ) (d : List ℕ) → came result (λ u. regs r.new u.sp u.lr pc d) ≡ effect_of (lent base stack.now) (Undo.LoadLr n) (regs r.old sp lr pc d) }
 {
     let at = sp as u64;
-    match load(base, stack, at) {
-        Loaded::Word(w) => {
-            let past = at + words::stack_bytes(n);
-            Undone {
-                verdict: Verdict::Given,
-                sp: past,
-                lr: set_reg(r, lr, 14, w),
-            }
-        }
-        Loaded::Refused(why) => Undone {
-            verdict: Verdict::Refused(why),
-            sp: at,
-            lr,
-        },
-    }
+    let w = load(base, stack, at)?;
+    Ok(Undone {
+        sp: at + words::stack_bytes(n),
+        lr: set_reg(r, lr, 14, w),
+    })
 }
 
 // What a code undoes, before SP is looked at.
@@ -273,16 +240,22 @@ fn effect(
     lr: u32,
     base: u32,
     stack: &[u8],
-) -> Undone
-    ensures { (pc : ℕ) → came result.verdict (regs r.new result.sp result.lr pc d.new) ≡ effect_of (lent base stack.now) undo (regs r.old sp lr pc d.old) }
+) -> Result<Undone, Refusal>
+    ensures { (pc : ℕ) → came result (λ u. regs r.new u.sp u.lr pc d.new) ≡ effect_of (lent base stack.now) undo (regs r.old sp lr pc d.old) }
 {
     match undo {
-        Undo::Up(n) => moved((sp as u64) + words::stack_bytes(n), lr),
+        Undo::Up(n) => Ok(Undone {
+            sp: (sp as u64) + words::stack_bytes(n),
+            lr,
+        }),
         Undo::Pop(list) => pop(list, r, sp, lr, base, stack),
-        Undo::SpFrom(x) => moved(reg(r, lr, x as usize) as u64, lr),
+        Undo::SpFrom(x) => Ok(Undone {
+            sp: reg(r, lr, x as usize) as u64,
+            lr,
+        }),
         Undo::Vpop(s, e) => vpop(s, e, d, sp, lr, base, stack),
         Undo::LoadLr(n) => load_lr(n, r, sp, lr, base, stack),
-        Undo::Nothing => moved(sp as u64, lr),
+        Undo::Nothing => Ok(Undone { sp: sp as u64, lr }),
     }
 }
 
@@ -295,86 +268,47 @@ fn undo_one(
     lr: u32,
     base: u32,
     stack: &[u8],
-) -> Stood
-    ensures { (pc : ℕ) → came result.verdict (regs r.new result.sp result.lr pc d.new) ≡ step_of (lent base stack.now) code (regs r.old sp lr pc d.old) }
+) -> Result<Stood, Refusal>
+    ensures { (pc : ℕ) → came result (λ u. regs r.new u.sp u.lr pc d.new) ≡ step_of (lent base stack.now) code (regs r.old sp lr pc d.old) }
 {
-    let undo = code.undo;
-    let u = effect(undo, r, d, sp, lr, base, stack);
-    let verdict = u.verdict;
-    if let Verdict::Refused(why) = verdict {
-        return Stood {
-            verdict: Verdict::Refused(why),
-            sp,
-            lr,
-        };
-    }
+    let u = effect(code.undo, r, d, sp, lr, base, stack)?;
     let at = u.sp;
     if stands(base, stack, at) {
-        let stood = at as u32;
-        return Stood {
-            verdict: Verdict::Given,
-            sp: stood,
+        return Ok(Stood {
+            sp: at as u32,
             lr: u.lr,
-        };
+        });
     }
-    Stood {
-        verdict: Verdict::Refused(Refusal::BadStack),
-        sp,
-        lr,
-    }
+    Err(Refusal::BadStack)
 }
 
-// What the codes came to, by the number that they ended with.
-fn end_by(w: u32, sp: u32, lr: u32, codes: usize, bad: usize) -> Ended
-    ensures { result ≡ record { verdict = outcome w bad; sp = sp; lr = lr; codes = codes } }
-{
-    let verdict = match w {
-        0 => Verdict::Given,
-        6 => Verdict::Refused(Refusal::BadCodes(CodeBytes(bad))),
-        _ => Verdict::Refused(Refusal::BadStack),
-    };
-    Ended {
-        verdict,
-        sp,
-        lr,
-        codes,
-    }
-}
-
-// Runs the codes from an index on, in place: the one there, and on what it left those behind it (RULES 3.15). The answer is a number, which
-// a return does not copy: 0, or the refusal's. So SP and LR are lent too (`m`), and the count and the index that refusal 6 holds (`e`).
-// The count is at most the index, since each code has a byte, so that it fits.
+// Runs the codes from an index on, in place: the one there, and on what it left those behind it (RULES 3.15). `n` were run before, at most
+// the index, since each code has a byte, so that the count fits. The answer is lent (`ended`): one that is returned is copied at each
+// return, and the call in tail position is no jump then.
 fn run_on(
     t: &[u8; 256],
     codes: &[u8],
     at: CodeBytes,
+    n: usize,
     r: &mut [u32; 13],
     d: &mut [u64; 32],
-    m: &mut [u32; 2],
-    e: &mut [usize; 2],
+    sp: u32,
+    lr: u32,
     base: u32,
     stack: &[u8],
-) -> u32
-    requires { (t.now ≡ row_numbers) × (get_or e.old 0 0 ≤ at.0) }
-    ensures { ((pc : ℕ) → came (outcome result (get_or e.new 1 0)) (regs r.new (get_or m.new 0 0) (get_or m.new 1 0) pc d.new) ≡ run_at (lent base stack.now) codes.now at (regs r.old (get_or m.old 0 0) (get_or m.old 1 0) pc d.old)) × Counted (outcome result (get_or e.new 1 0)) (get_or e.new 0 0) (get_or e.old 0 0 + length (scan codes.now at).list) }
+    ended: &mut Result<Ended, Refusal>,
+)
+    requires { (t.now ≡ row_numbers) × (n ≤ at.0) }
+    ensures ran { (pc : ℕ) → came ended.new (λ e. regs r.new e.sp e.lr pc d.new) ≡ run_at (lent base stack.now) codes.now at (regs r.old sp lr pc d.old) }
+    ensures counted { IfOk ended.new (λ e. e.codes ≡ n + length (scan codes.now at).list) }
 {
     match codes::take_at(t, codes, at) {
-        Taken::One(code, next) => {
-            let first = undo_one(code, r, d, m[0], m[1], base, stack);
-            let verdict = first.verdict;
-            if let Verdict::Refused(_) = verdict {
-                return 8;
-            }
-            *m = [first.sp, first.lr];
-            let count = e[0] + 1;
-            *e = [count, 0];
-            run_on(t, codes, next, r, d, m, e, base, stack)
-        }
-        Taken::Last(_) => 0,
-        Taken::Bad(i) => {
-            *e = [0, i.0];
-            6
-        }
+        Taken::One(code, next) => match undo_one(code, r, d, sp, lr, base, stack) {
+            Ok(s) => run_on(t, codes, next, n + 1, r, d, s.sp, s.lr, base, stack, ended),
+            Err(why) => *ended = Err(why),
+        },
+        Taken::Last(_) => *ended = Ok(Ended { sp, lr, codes: n }),
+        Taken::Bad(i) => *ended = Err(Refusal::BadCodes(i)),
     }
 }
 
@@ -389,12 +323,12 @@ pub fn run_in(
     lr: u32,
     base: u32,
     stack: &[u8],
-) -> Ended
+) -> Result<Ended, Refusal>
     requires { t.now ≡ row_numbers }
-    ensures { ((pc : ℕ) → came result.verdict (regs r.new result.sp result.lr pc d.new) ≡ run_at (lent base stack.now) codes.now at (regs r.old sp lr pc d.old)) × Counted result.verdict result.codes (length (scan codes.now at).list) }
+    ensures ran { (pc : ℕ) → came result (λ e. regs r.new e.sp e.lr pc d.new) ≡ run_at (lent base stack.now) codes.now at (regs r.old sp lr pc d.old) }
+    ensures counted { IfOk result (λ e. e.codes ≡ length (scan codes.now at).list) }
 {
-    let mut m = [sp, lr];
-    let mut e = [0, 0];
-    let w = run_on(t, codes, at, r, d, &mut m, &mut e, base, stack);
-    end_by(w, m[0], m[1], e[0], e[1])
+    let mut ended = Ok(Ended { sp, lr, codes: 0 });
+    run_on(t, codes, at, 0, r, d, sp, lr, base, stack, &mut ended);
+    ended
 }

@@ -1,13 +1,12 @@
 -- The outline of a sound table is what it has to be. By the list in order from its end: a region that comes before an outline holds some regions
 -- in front of it and is past all others, so those in front come under it, and whatever stood deeper stays under the smallest that holds it.
 -- Assumes nothing.
-use Rattle.std.specs.Prelude.{if◌then◌else◌}
+use Rattle.std.specs.Prelude.{if◌then◌else◌, Option, None, Some}
 use Prim.Native.Nat.{ℕ, suc, max, ◌≤◌, ◌<◌}
 use mathlib.Core.Path.{◌≡◌, refl, sym, ap, ◌∙◌}
 use mathlib.Core.Logic.{◌⊎◌, inl, inr}
 use mathlib.Core.Bool.{Bool, true, false, ◌&&◌}
 use mathlib.Core.List.{List, [], ◌∷◌, ◌++◌, append_assoc}
-use mathlib.Core.Option.{Option, none, some}
 use lib.Dec.{leb, ltb, eqb}
 use lib.ListN.{length}
 use native.Mathlib.Omega.{arith}
@@ -212,7 +211,7 @@ Beyond r (region s i b) = r.end ≤ s.begin
 
 module _ (r : Region) (l : List Region) where
   -- what stood under a region stays there
-  deeper : (u : Region) (o : Outline) → Stands r u → Every (Behind r l) o → Parents l (some u) o → Parents (r ∷ l) (some u) o
+  deeper : (u : Region) (o : Outline) → Stands r u → Every (Behind r l) o → Parents l (Some u) o → Parents (r ∷ l) (Some u) o
   unfolding Every Parents Among
   deeper u Made.none h e p = tt
   deeper u (region s i b) h e p =
@@ -223,7 +222,7 @@ module _ (r : Region) (l : List Region) where
       smallest t (inr a) k = p.0.2 t a k
 
   -- outermost ones that it is past stay outermost
-  beyond : (o : Outline) → Every (Behind r l) o → Sorted o → Beyond r o → Parents l none o → Parents (r ∷ l) none o
+  beyond : (o : Outline) → Every (Behind r l) o → Sorted o → Beyond r o → Parents l None o → Parents (r ∷ l) None o
   unfolding Every Sorted Parents Among
   beyond Made.none e h q p = tt
   beyond (region s i b) e h q p = (unheld, deeper s i e.0.1 e.1 p.1, beyond b e.2 h.2 (next b h.0) p.2)
@@ -237,7 +236,7 @@ module _ (r : Region) (l : List Region) where
       next (region t j c) k = omega (arith, before-begins s t k)
 
   -- those in front that it covers come under it
-  front-parents : (o : Outline) → Every (Behind r l) o → Parents l none o → Parents (r ∷ l) (some r) (front r o)
+  front-parents : (o : Outline) → Every (Behind r l) o → Parents l None o → Parents (r ∷ l) (Some r) (front r o)
   unfolding Every Parents Among front
   front-parents Made.none e p = tt
   front-parents (region s i b) e p = go (covers r s) refl (front-parents b e.2 p.2)
@@ -247,23 +246,23 @@ module _ (r : Region) (l : List Region) where
       smallest t (inr a) k = absurd (let f : encloses t s ≡ false = p.0 t a in let z : ◌≡◌ {A = ℕ} 0 1 = cc in omega arith)
 
       go :
-          (c : Bool) → covers r s ≡ c → Parents (r ∷ l) (some r) (front r b)
-          → Parents (r ∷ l) (some r) (if c then region s i (front r b) else Made.none)
+          (c : Bool) → covers r s ≡ c → Parents (r ∷ l) (Some r) (front r b)
+          → Parents (r ∷ l) (Some r) (if c then region s i (front r b) else Made.none)
       go true q f = ((inl refl, covered r s e.0.1 q, smallest), deeper s i e.0.1 e.1 p.1, f)
       go false q f = tt
 
   -- and those behind stay
-  behind-parents : (o : Outline) → Every (Behind r l) o → Sorted o → Parents l none o → Parents (r ∷ l) none (behind r o)
+  behind-parents : (o : Outline) → Every (Behind r l) o → Sorted o → Parents l None o → Parents (r ∷ l) None (behind r o)
   unfolding Every Sorted Parents Among behind
   behind-parents Made.none e h p = tt
   behind-parents (region s i b) e h p = go (covers r s) refl (behind-parents b e.2 h.2 p.2)
     where
-      go : (c : Bool) → covers r s ≡ c → Parents (r ∷ l) none (behind r b) → Parents (r ∷ l) none (if c then behind r b else region s i b)
+      go : (c : Bool) → covers r s ≡ c → Parents (r ∷ l) None (behind r b) → Parents (r ∷ l) None (if c then behind r b else region s i b)
       go true q f = f
       go false q f = beyond (region s i b) e h (uncovered r s e.0.1 q) p
 
   -- it is held by none
-  outermost : ((s : Region) → Among s l → Stands r s) → Under (r ∷ l) none r
+  outermost : ((s : Region) → Among s l → Stands r s) → Under (r ∷ l) None r
   unfolding Among
   outermost f t (inl q) = rw q (not_itself r)
   outermost f t (inr a) = not_back r t (f t a)
@@ -278,7 +277,7 @@ nest-sorted (r ∷ l) h =
     let q = nest-sorted l h.1 in
     (behind-led r (nest l) (nest-every (λ s. before r s ≡ true) l (λ s a. (h.0 s a).0)), front-sorted r (nest l) q, behind-sorted r (nest l) q)
 
-nest-parents : (l : List Region) → Laid l → Parents l none (nest l)
+nest-parents : (l : List Region) → Laid l → Parents l None (nest l)
 unfolding nest Parents Laid
 nest-parents [] h = tt
 nest-parents (r ∷ l) h =
@@ -290,13 +289,13 @@ nest-parents (r ∷ l) h =
 -- parents are the same in lists of the same regions
 module _ (k l : List Region) (to : (s : Region) → Among s k → Among s l) (from : (s : Region) → Among s l → Among s k) where
   under_same : (u : Option Region) (r : Region) → Under k u r → Under l u r
-  under_same none r h = λ s a. h s (from s a)
-  under_same (some u) r h = (to u h.0, h.1, λ s a e. h.2 s (from s a) e)
+  under_same None r h = λ s a. h s (from s a)
+  under_same (Some u) r h = (to u h.0, h.1, λ s a e. h.2 s (from s a) e)
 
   parents-same : (u : Option Region) (o : Outline) → Parents k u o → Parents l u o
   unfolding Parents
   parents-same u Made.none p = tt
-  parents-same u (region r i b) p = (under_same u r p.0, parents-same (some r) i p.1, parents-same u b p.2)
+  parents-same u (region r i b) p = (under_same u r p.0, parents-same (Some r) i p.1, parents-same u b p.2)
 
 pub nested-ascending : (rs : List Region) → Ascends rs → sound rs ≡ true → Nested rs (outline rs)
 nested-ascending rs up h =
@@ -304,7 +303,7 @@ nested-ascending rs up h =
     let laid = order-laid rs up h in
     record {
       once = λ p. ap (count p) (nest-regions l) ∙ order-count p rs;
-      parents = parents-same l rs (λ s a. order-has s rs a) (λ s a. order-keeps s rs a) none (nest l) (nest-parents l laid);
+      parents = parents-same l rs (λ s a. order-has s rs a) (λ s a. order-keeps s rs a) None (nest l) (nest-parents l laid);
       sorted = nest-sorted l laid;
       shallow = omega (arith, nest-depth l, order-length rs);
     }

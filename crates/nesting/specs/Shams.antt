@@ -1,6 +1,5 @@
 -- Two wrong outlines: everything outermost, and each region under the first one of the table that holds it.
-use Rattle.std.specs.Prelude.{ℕ, zero, suc, Bool, List, [], ◌∷◌, eqb, if◌then◌else◌}
-use Rattle.std.proofs.Math.Option.{Option, none, some}
+use Rattle.std.specs.Prelude.{ℕ, zero, suc, Bool, List, [], ◌∷◌, eqb, if◌then◌else◌, Option, None, Some}
 use Rattle.words.specs.Answer.{maybe}
 use Rattle.regions.specs.declared.Region.{Region}
 use Rattle.regions.specs.Region.{encloses}
@@ -16,8 +15,8 @@ outermost rs = flat (in_order rs)
 
 -- the first of a table that holds a region
 unfoldable pub first_holder : List Region → Region → Option Region
-first_holder [] r = none
-first_holder (s ∷ ss) r = if encloses s r then some s else first_holder ss r
+first_holder [] r = None
+first_holder (s ∷ ss) r = if encloses s r then Some s else first_holder ss r
 
 -- two holders are one: both none, or of the same number
 abbrev pub same : Option Region → Option Region → Bool
@@ -32,7 +31,7 @@ held_by rs u (r ∷ l) = let rest = held_by rs u l in if same (first_holder rs r
 unfoldable pub hung : (depth : ℕ) → (table : List Region) → List Region → Outline
 hung zero rs l = Made.none
 hung (suc d) rs [] = Made.none
-hung (suc d) rs (r ∷ l) = region r (hung d rs (held_by rs (some r) (in_order rs))) (hung (suc d) rs l)
+hung (suc d) rs (r ∷ l) = region r (hung d rs (held_by rs (Some r) (in_order rs))) (hung (suc d) rs l)
 
 abbrev pub first_holds : List Region → Outline
-first_holds rs = hung 64 rs (held_by rs none (in_order rs))
+first_holds rs = hung 64 rs (held_by rs None (in_order rs))

@@ -6,9 +6,9 @@ ghost use Rattle.std.specs.Prelude.{◌≤◌, length};
 ghost use Rattle.outlining.specs.AsCoded.Parts.{Ready};
 
 use outlining::At;
-use programs::Input;
+use programs::Answering;
 use std::io::{Read, Write};
-use words::{Refusal, Verdict};
+use words::Refusal;
 
 // Writes the parts of an outline from where it stands; whether all was taken.
 fn write_parts<W: Write, E: Write>(
@@ -21,17 +21,16 @@ fn write_parts<W: Write, E: Write>(
     requires { (12288 ≤ length out.old) × Ready file.now at }
 {
     let mut a = at;
-    let mut on = true;
-    while on {
+    loop {
         let part = outlining::next_part(file, a, out, 0);
-        let n = part.place;
-        if !programs::put(output, errors, &out[..n]) {
+        if !programs::put(output, errors, &out[..part.place]) {
             return false;
         }
-        on = part.on;
-        a = part.next;
+        match part.next {
+            Some(next) => a = next,
+            None => return true,
+        }
     }
-    true
 }
 
 // Writes the line of a refused report.
@@ -47,68 +46,35 @@ fn write_refused<W: Write, E: Write>(
     programs::put(output, errors, &out[..n])
 }
 
-// Writes the outline of a report. The buffer is lent, so that it is not cleared for each.
-fn write<W: Write, E: Write>(output: &mut W, errors: &mut E, file: &[u8], out: &mut [u8]) -> bool
-    requires { 12288 ≤ length out.old }
-{
-    let begun = outlining::begin(file);
-    let verdict = begun.verdict;
-    match verdict {
-        Verdict::Given => write_parts(output, errors, file, begun.at, out),
-        Verdict::Refused(why) => write_refused(output, errors, why, out),
-    }
-}
+// The outline of a report, which is written part by part.
+struct Outline;
 
-// The same with an empty line after it.
-fn write_line<W: Write, E: Write>(
-    output: &mut W,
-    errors: &mut E,
-    file: &[u8],
-    out: &mut [u8],
-) -> bool
-    requires { 12288 ≤ length out.old }
-{
-    if write(output, errors, file, out) {
-        programs::put(output, errors, b"\n")
-    } else {
-        false
-    }
-}
+impl Answering for Outline {
+    ghost room = { 12288 };
 
-// Answers the next report, and says whether to go on.
-fn write_next<R: Read, W: Write, E: Write>(
-    input: &mut R,
-    output: &mut W,
-    errors: &mut E,
-    file: &mut [u8],
-    out: &mut [u8],
-) -> bool
-    requires { 12288 ≤ length out.old }
-{
-    match programs::take(input, errors, file) {
-        Input::Report(n) => write_line(output, errors, &file[..n], out),
-        Input::Cut => {
-            write_line(output, errors, b"", out);
-            false
+    fn answer<W: Write, E: Write>(
+        &self,
+        output: &mut W,
+        errors: &mut E,
+        file: &[u8],
+        out: &mut [u8],
+    ) -> bool {
+        match outlining::begin(file) {
+            Ok(at) => write_parts(output, errors, file, at, out),
+            Err(why) => write_refused(output, errors, why, out),
         }
-        Input::End => false,
     }
 }
 
-// One report, up to the input's end. One byte more than the largest is asked for, so that a longer one is seen to be longer.
+// The outline of one report, and of reports one after the other.
 pub fn outline_one<R: Read, W: Write, E: Write>(input: &mut R, output: &mut W, errors: &mut E) {
     let mut out = [0u8; 12288];
     let mut file = [0u8; 65537];
-    let n = programs::take_all(input, errors, &mut file);
-    write(output, errors, &file[..n], &mut out);
+    programs::run_one(&Outline, input, output, errors, &mut file, &mut out);
 }
 
-// Reports one after the other; as many turns as no run uses up.
 pub fn outline_many<R: Read, W: Write, E: Write>(input: &mut R, output: &mut W, errors: &mut E) {
     let mut out = [0u8; 12288];
     let mut file = [0u8; 65536];
-    let mut turns = u64::MAX;
-    while 0 < turns && write_next(input, output, errors, &mut file, &mut out) {
-        turns -= 1;
-    }
+    programs::run_many(&Outline, input, output, errors, &mut file, &mut out);
 }

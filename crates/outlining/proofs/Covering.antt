@@ -1,13 +1,12 @@
 -- The record whose regions are printed under a frame is the one that covers it: the frame was unwound by the record found for its pc, and is a
 -- leaf only where nothing was found or the function found ends before the pc. A listed pc has its bit 0 cleared, and finds the same.
 -- Assumes nothing.
-use Rattle.std.specs.Prelude.{if◌then◌else◌}
+use Rattle.std.specs.Prelude.{if◌then◌else◌, Option, None, Some, Ok}
 use Prim.Native.Nat.{ℕ}
 use mathlib.Core.Path.{◌≡◌, refl, sym, ap, ◌∙◌}
 use mathlib.Core.Logic.{◌≢◌}
 use mathlib.Core.List.{List}
 use mathlib.Core.Bool.{Bool, true, false, ◌&&◌}
-use mathlib.Core.Option.{Option, none, some}
 use lib.Dec.{ltb}
 use borrow.Author.Tests.{ltb-true, ltb-false}
 use native.Mathlib.Omega.{arith}
@@ -15,7 +14,7 @@ use Rattle.words.specs.Bits.{even}
 use Rattle.words.specs.declared.Place.{Place}
 use Rattle.words.specs.declared.Place.TheVariants.{Leaf, Prologue, Body, Epilogue}
 use Rattle.words.specs.declared.Refusal.TheVariants.{UnfitInput, BadStack}
-use Rattle.words.specs.Answer.{ok, maybe}
+use Rattle.words.specs.Answer.{maybe}
 use Rattle.words.proofs.Answers.{bind_ok, need-ok, ok_same}
 use Rattle.unwinding.specs.Shape.{Shape}
 use Rattle.unwinding.specs.Trail.{Trail}
@@ -54,12 +53,12 @@ pub data Rests (t : Inputs) (g : Regs) (c : Caller) : Type 0 where
   on : (e : Entry) → Covers t g.pc e → c.place ≢ Leaf → Rests t g c
   nothing : ((e : Entry) → Covers t g.pc e → ⊥) → c.place ≡ Leaf → Rests t g c
 
-uncovered-leaf : (first : Bool) (g : Regs) (c : Caller) → uncovered first g ≡ ok c → c.place ≡ Leaf
+uncovered-leaf : (first : Bool) (g : Regs) (c : Caller) → uncovered first g ≡ Ok c → c.place ≡ Leaf
 uncovered-leaf true g c q = ap (λ z. z.place) (sym (ok_same (leaf_of g) c q))
 uncovered-leaf false g c q = absurd (let z : ◌≡◌ {A = ℕ} 0 1 = cc in omega arith)
 
 -- a record found, of a function that ends before the pc
-module _ (t : Inputs) (pc : ℕ) (e : Entry) (s : Shape) (f : find t.image t.pdata pc ≡ ok (some e)) (r : shape_of t.xdata e ≡ ok s) where
+module _ (t : Inputs) (pc : ℕ) (e : Entry) (s : Shape) (f : find t.image t.pdata pc ≡ Ok (Some e)) (r : shape_of t.xdata e ≡ Ok s) where
   beyond : ltb (offset_in t pc e) s.span ≡ false → (d : Entry) → Covers t pc d → ⊥
   beyond l d k =
       let same : d ≡ e = cc (f, k.found) in
@@ -67,19 +66,19 @@ module _ (t : Inputs) (pc : ℕ) (e : Entry) (s : Shape) (f : find t.image t.pda
       omega (arith, k.inside, ap (λ z. z.start) same, ap (λ z. z.span) shapes, ltb-false (offset_in t pc e) s.span l)
 
 module _ (first : Bool) (t : Inputs) (g : Regs) (c : Caller) where
-  by-record : (e : Entry) → find t.image t.pdata g.pc ≡ ok (some e) → by_record first t e g ≡ ok c → Rests t g c
+  by-record : (e : Entry) → find t.image t.pdata g.pc ≡ Ok (Some e) → by_record first t e g ≡ Ok c → Rests t g c
   unfolding by_record
   by-record e f q = let a = bind_ok (shape_of t.xdata e) _ c q in go a.0 a.1 (ltb (offset_in t g.pc e) a.0.span) refl a.2
     where
       go :
-          (s : Shape) → shape_of t.xdata e ≡ ok s → (b : Bool) → ltb (offset_in t g.pc e) s.span ≡ b
-          → (if b then within t.stack s (offset_in t g.pc e) g else uncovered first g) ≡ ok c
+          (s : Shape) → shape_of t.xdata e ≡ Ok s → (b : Bool) → ltb (offset_in t g.pc e) s.span ≡ b
+          → (if b then within t.stack s (offset_in t g.pc e) g else uncovered first g) ≡ Ok c
           → Rests t g c
       go s r true l w =
           on e (record { found = f; shape = s; read = r; inside = ltb-true _ _ l }) (inner-within t.stack s (offset_in t g.pc e) g c w)
       go s r false l w = nothing (beyond t g.pc e s f r l) (uncovered-leaf first g c w)
 
-  pub rests : frame_of first t g ≡ ok c → Rests t g c
+  pub rests : frame_of first t g ≡ Ok c → Rests t g c
   unfolding frame_of
   rests h =
       let a = need-ok (fit_stack t.stack && fit_xdata t.xdata) UnfitInput _ c h in
@@ -88,21 +87,21 @@ module _ (first : Bool) (t : Inputs) (g : Regs) (c : Caller) where
       go b.0 b.1 d.1
     where
       go :
-          (e : Option Entry) → find t.image t.pdata g.pc ≡ ok e → maybe e (uncovered first g) (λ e. by_record first t e g) ≡ ok c
+          (e : Option Entry) → find t.image t.pdata g.pc ≡ Ok e → maybe e (uncovered first g) (λ e. by_record first t e g) ≡ Ok c
           → Rests t g c
-      go none f q = nothing (λ e k. let z : ◌≡◌ {A = ℕ} 0 1 = cc (f, k.found) in omega arith) (uncovered-leaf first g c q)
-      go (some e) f q = by-record e f q
+      go None f q = nothing (λ e k. let z : ◌≡◌ {A = ℕ} 0 1 = cc (f, k.found) in omega arith) (uncovered-leaf first g c q)
+      go (Some e) f q = by-record e f q
 
 -- ---- a frame's regions
 found-regions :
-    (t : Inputs) (pc : ℕ) (e : Entry) (p : Place) → p ≢ Leaf → find t.image t.pdata pc ≡ ok (some e)
+    (t : Inputs) (pc : ℕ) (e : Entry) (p : Place) → p ≢ Leaf → find t.image t.pdata pc ≡ Ok (Some e)
     → regions_at t pc p ≡ regions_by t e
 found-regions t pc e Leaf n f = absurd (n refl)
 found-regions t pc e Prologue n f = ap (regions_found t) f
 found-regions t pc e Body n f = ap (regions_found t) f
 found-regions t pc e Epilogue n f = ap (regions_found t) f
 
-pub frame-regioned : (first : Bool) (t : Inputs) (g : Regs) (c : Caller) → frame_of first t g ≡ ok c → Regioned t (arm.listed_as g c.place)
+pub frame-regioned : (first : Bool) (t : Inputs) (g : Regs) (c : Caller) → frame_of first t g ≡ Ok c → Regioned t (arm.listed_as g c.place)
 frame-regioned first t g c h = go (rests first t g c h)
   where
     go : Rests t g c → Regioned t (arm.listed_as g c.place)

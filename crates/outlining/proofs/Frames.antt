@@ -1,6 +1,6 @@
 -- The regions of a frame, by its place: at any but a leaf they are those of the record found, and nowhere does the stack count.
 -- Assumes nothing.
-use Rattle.std.specs.Prelude.{if◌then◌else◌}
+use Rattle.std.specs.Prelude.{Result, Ok, Err}
 use Prim.Native.Nat.{ℕ, ◌-◌}
 use mathlib.Core.Path.{◌≡◌, refl, ap}
 use mathlib.Core.Logic.{⊎_elim}
@@ -15,6 +15,7 @@ use Rattle.pdata.specs.Pdata.{find}
 use Rattle.frame.specs.Frame.{Inputs, inputs}
 use Rattle.walking.specs.declared.Going.{Going}
 use Rattle.walking.specs.declared.Standing.{Standing}
+use Rattle.walking.specs.declared.Stop.{Stop}
 use Rattle.listing.specs.AsCoded.Turns.{turn_text}
 use Rattle.region_text.specs.RegionText.{regions_text}
 use Rattle.outlining.specs.Outlined.{regions_found, regions_at}
@@ -39,6 +40,7 @@ module _ (image : ℕ) (pdata : List ℕ) (rva : ℕ) (xdata : List ℕ) (base :
   same-regions pc Body = refl
   same-regions pc Epilogue = refl
 
-  pub same-part : (s : Standing) (x : Going) → turn_part bare s x ≡ turn_part whole s x
-  same-part s x =
-      ap (λ l. opening s.frames ++ turn_text s x ++ (if x.on then regions_text (x.frame.pc - image) l else [])) (same-regions x.frame.pc x.frame.place)
+  pub same-part : (s : Standing) (x : Result Going Stop) → turn_part bare s x ≡ turn_part whole s x
+  same-part s (Ok x) =
+      ap (λ l. opening s.frames ++ turn_text s (Ok x) ++ regions_text (x.frame.pc - image) l) (same-regions x.frame.pc x.frame.place)
+  same-part s (Err stop) = refl

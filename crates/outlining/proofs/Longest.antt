@@ -1,12 +1,13 @@
 -- The largest outline: how much room all of it can need.
 -- Assumes nothing.
+use Rattle.std.specs.Prelude.{Ok, Err}
 use Prim.Native.Nat.{ℕ, ◌+◌, ◌-◌, ◌*◌, ◌≤◌}
 use mathlib.Core.Path.{◌≡◌}
 use mathlib.Core.Bool.{true}
 use mathlib.Core.List.{List, [], ◌∷◌, ◌++◌}
 use lib.ListN.{length, length-append}
 use native.Mathlib.Omega.{arith}
-use Rattle.words.specs.Answer.{Res, ok, refuse, either}
+use Rattle.words.specs.Answer.{Res, either}
 use Rattle.unwinding.proofs.Walks.{walk-room}
 use Rattle.frame.specs.Frame.{Inputs}
 use Rattle.walking.specs.Walk.{arm, frames, Trail, walk}
@@ -39,8 +40,8 @@ unfolding outlined
 outlined-fits s = go (report s)
   where
     go : (r : Res Report) → length (either r (λ x. refused_text x ++ text "\n") (λ p. outlined_walk p.inputs (walk p.inputs 256 p.regs))) ≤ 2747253
-    go (ok p) = walk-length p.inputs (walk p.inputs 256 p.regs) (walk-room arm (frames p.inputs) 256 true p.regs)
-    go (refuse r) = simp length-append (omega (arith, refused-length r))
+    go (Ok p) = walk-length p.inputs (walk p.inputs 256 p.regs) (walk-room arm (frames p.inputs) 256 true p.regs)
+    go (Err r) = simp length-append (omega (arith, refused-length r))
 
 -- an outline laid from the buffer's start, as the contract says it
 pub outlined-laid : (s : List ℕ) {b o : List ℕ} {r : ℕ} → Laid b 0 (outlined s) r o → ((r ≡ length (outlined s)) × (o ≡ overlay b 0 (outlined s))) × (r ≤ 2747253)

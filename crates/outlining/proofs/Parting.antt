@@ -1,13 +1,14 @@
 -- The parts of an outline, put end to end, are the outline: the heading stands before the first part alone, since the numbers after it are
 -- not 0, and from the beginning what is left to walk is the whole walk.
 -- Assumes nothing.
+use Rattle.std.specs.Prelude.{Ok, Err}
 use Prim.Native.Nat.{ℕ, ◌+◌, ◌<◌}
 use mathlib.Core.Path.{◌≡◌, refl, sym, ap, ap₂, ◌∙◌}
 use mathlib.Core.List.{List, [], ◌∷◌, ◌++◌, append_assoc, append-nil, flatten}
 use lib.ListN.{length}
 use borrow.Author.Tests.{ne_eqb}
 use native.Mathlib.Omega.{arith}
-use Rattle.words.specs.Answer.{Res, ok, refuse, either}
+use Rattle.words.specs.Answer.{Res, either}
 use Rattle.unwinding.specs.AsCoded.Turn as General
 use Rattle.frame.specs.Frame.{Inputs}
 use Rattle.walking.specs.Walk.{arm, Trail, walk}
@@ -62,5 +63,5 @@ parts-outlined s = go (report s)
         (r : Res Report)
         → flatten (either r (λ r. (refused_text r ++ text "\n") ∷ []) (λ p. parts_at p.inputs (General.begun arm p.regs)))
         ≡ either r (λ r. refused_text r ++ text "\n") (λ p. outlined_walk p.inputs (walk p.inputs 256 p.regs))
-    go (ok p) = headed p.inputs (walk p.inputs 256 p.regs).frames (walk p.inputs 256 p.regs)
-    go (refuse r) = append-nil (refused_text r ++ text "\n")
+    go (Ok p) = headed p.inputs (walk p.inputs 256 p.regs).frames (walk p.inputs 256 p.regs)
+    go (Err r) = append-nil (refused_text r ++ text "\n")

@@ -1,17 +1,16 @@
 -- The largest part: a heading, a frame's line or the last one, and the regions of one record.
 -- Assumes nothing.
-use Rattle.std.specs.Prelude.{if◌then◌else◌}
+use Rattle.std.specs.Prelude.{if◌then◌else◌, Option, None, Some, Result, Ok, Err}
 use Prim.Native.Nat.{ℕ, ◌≤◌, ◌<◌}
 use mathlib.Core.Bool.{Bool, true, false}
 use mathlib.Core.List.{List, [], ◌++◌}
-use mathlib.Core.Option.{Option, none, some}
 use lib.Dec.{eqb}
 use lib.ListN.{length, length-append}
 use native.Mathlib.Omega.{arith}
 use Rattle.words.specs.Bits.{bits}
 use Rattle.words.specs.declared.Place.{Place}
 use Rattle.words.specs.declared.Place.TheVariants.{Leaf, Prologue, Body, Epilogue}
-use Rattle.words.specs.Answer.{Res, ok, refuse}
+use Rattle.words.specs.Answer.{Res}
 use Rattle.pdata.specs.declared.Entry.{Entry}
 use Rattle.pdata.specs.Pdata.{find}
 use Rattle.frame.specs.Frame.{Inputs}
@@ -40,9 +39,9 @@ by-fit a t e = go (eqb (bits 0 2 e.word) 0)
     go false = none-fit a
 
 found-fit : (a : ℕ) (t : Inputs) (found : Res (Option Entry)) → length (regions_text a (regions_found t found)) ≤ 10700
-found-fit a t (refuse r) = none-fit a
-found-fit a t (ok none) = none-fit a
-found-fit a t (ok (some e)) = by-fit a t e
+found-fit a t (Err r) = none-fit a
+found-fit a t (Ok None) = none-fit a
+found-fit a t (Ok (Some e)) = by-fit a t e
 
 pub at-fit : (a : ℕ) (t : Inputs) (pc : ℕ) (p : Place) → length (regions_text a (regions_at t pc p)) ≤ 10700
 at-fit a t pc Leaf = none-fit a
@@ -61,18 +60,15 @@ opening-length n = go (eqb n 0)
 pub last-length : (s : Stop) (n k : ℕ) → length (last_of s n k) ≤ 99
 last-length s n k = simp length-append (omega (arith, stop-length s, decimal-limit n, decimal-limit k))
 
-pub part_length : (t : Inputs) (s : Standing) (x : Going) → s.frames < 1000 → length (turn_part t s x) ≤ 12288
-part_length t s x h = go x.on
+pub part_length : (t : Inputs) (s : Standing) (x : Result Going Stop) → s.frames < 1000 → length (turn_part t s x) ≤ 12288
+part_length t s x h = go x
   where
     n : ℕ
     n = s.frames
 
-    line : Bool → List ℕ
-    line b = if b then frame_line n x.frame else last_of x.stop n s.codes
-
     of : (m l : List ℕ) → length m ≤ 99 → length l ≤ 10700 → length (opening n ++ m ++ l) ≤ 12288
     of m l b c = omega (arith, length-append (opening n ++ m) l, length-append (opening n) m, opening-length n)
 
-    go : (b : Bool) → length (opening n ++ line b ++ (if b then region_lines t x.frame else [])) ≤ 12288
-    go true = of (line true) (region_lines t x.frame) (omega (arith, frame-length n x.frame h)) (at-fit _ t x.frame.pc x.frame.place)
-    go false = of (line false) [] (last-length x.stop n s.codes) (omega arith)
+    go : (x : Result Going Stop) → length (turn_part t s x) ≤ 12288
+    go (Ok y) = of (frame_line n y.frame) (region_lines t y.frame) (omega (arith, frame-length n y.frame h)) (at-fit _ t y.frame.pc y.frame.place)
+    go (Err stop) = of (last_of stop n s.codes) [] (last-length stop n s.codes) (omega arith)

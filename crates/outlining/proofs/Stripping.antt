@@ -1,6 +1,7 @@
 -- The outline without the lines that begin with a space is the listing (RULES 8.17): a frame's line begins with a digit, the heading and the
 -- last line with a letter, and of the lines of regions nothing is left.
 -- Assumes nothing.
+use Rattle.std.specs.Prelude.{Ok, Err}
 use Prim.Native.Nat.{ℕ, ◌+◌, ◌-◌}
 use mathlib.Core.Path.{◌≡◌, refl}
 use mathlib.Core.List.{List, [], ◌∷◌, ◌++◌}
@@ -8,7 +9,7 @@ use Rattle.words.specs.Refusals.{number}
 use Rattle.words.specs.declared.Refusal.{Refusal}
 use Rattle.words.specs.declared.Place.{Place}
 use Rattle.words.specs.declared.Place.TheVariants.{Leaf, Prologue, Body, Epilogue}
-use Rattle.words.specs.Answer.{Res, ok, refuse, either}
+use Rattle.words.specs.Answer.{Res, either}
 use Rattle.frame.specs.Frame.{Inputs}
 use Rattle.walking.specs.Walk.{Trail, walk}
 use Rattle.walking.specs.declared.Frame.{Frame}
@@ -90,8 +91,8 @@ outlined-left s = go (report s)
         (r : Res Report)
         → Leaves start (either r (λ r. refused_text r ++ text "\n") (λ p. outlined_walk p.inputs (walk p.inputs 256 p.regs))) start
         (either r (λ r. refused_text r ++ text "\n") (λ p. printed (walk p.inputs 256 p.regs)))
-    go (ok p) = walk-left p.inputs (walk p.inputs 256 p.regs)
-    go (refuse r) = both {s = refused_text r} {l = refused_text r} (refused-start r) newline
+    go (Ok p) = walk-left p.inputs (walk p.inputs 256 p.regs)
+    go (Err r) = both {s = refused_text r} {l = refused_text r} (refused-start r) newline
 
 pub stripped-listing : (s : List ℕ) → stripped (outlined s) ≡ listing s
 stripped-listing s = whole (outlined-left s)

@@ -1,9 +1,9 @@
 -- The parts of an outline, turn by turn: a turn of the walk gives the first of those that are left.
 -- Assumes nothing.
-use Rattle.std.specs.Prelude.{if◌then◌else◌}
+use Rattle.std.specs.Prelude.{None, Some, Result, Ok, Err}
 use Prim.Native.Nat.{ℕ, suc, ◌+◌, ◌-◌, ◌≤◌}
 use mathlib.Core.Path.{◌≡◌, refl, sym, ap, ◌∙◌, subst}
-use mathlib.Core.Bool.{Bool, true, false}
+use mathlib.Core.Bool.{true, false}
 use mathlib.Core.List.{List, [], ◌∷◌, ◌++◌, append_assoc, append-nil}
 use native.Mathlib.Omega.{arith}
 use Rattle.unwinding.specs.AsCoded.Turn as General
@@ -16,8 +16,9 @@ use Rattle.frame.specs.Frame.{Inputs}
 use Rattle.walking.specs.declared.Frame.{Frame}
 use Rattle.walking.specs.declared.Going.{Going}
 use Rattle.walking.specs.declared.Standing.{Standing}
+use Rattle.walking.specs.declared.Stop.{Stop}
 use Rattle.walking.specs.Walk.{arm, frames, Trail}
-use Rattle.walking.specs.AsCoded.InPlace.{stands, SmallIn, Goes}
+use Rattle.walking.specs.AsCoded.InPlace.{stands, turning_in, SmallIn, Goes}
 use Rattle.walking.proofs.Turns.{bounded}
 use Rattle.text.specs.Overlay.{Laid}
 use Rattle.listing.specs.Listing.{frame_line, last_of}
@@ -76,48 +77,44 @@ abbrev pub stand_of : At → Standing
 stand_of a = record { sp = a.regs.sp; lr = a.regs.lr; pc = a.regs.pc; end = a.end; frames = a.frames; codes = a.codes }
 
 -- a turn in place prints the first of the parts that are left
-module _ (t : Inputs) (a : At) (h : Stands t a) (p : Standing) (q : p ≡ stand_of a) (x : Going) (r d : List ℕ) (g : Goes t 256 (stands p a.regs.r a.regs.d) x r d) where
+module _ (t : Inputs) (a : At) (h : Stands t a) (p : Standing) (q : p ≡ stand_of a) (r d : List ℕ) where
   abbrev s : General.Standing arm
   s = standing_at a
 
-  abbrev T : General.Turn arm
-  T = General.turn_of arm (frames t) 256 s
+  met : (x : Result Going Stop) → Goes t 256 (stands p a.regs.r a.regs.d) x r d → Turns arm (frames t) 256 s (turning_in s x r d)
+  met x g =
+      let goes : Goes t 256 s x r d = subst (λ (y : Standing). Goes t 256 (stands y a.regs.r a.regs.d) x r d) q g in
+      subst (Turns arm (frames t) 256 s) (sym goes) (turns arm (frames t) 256 s)
 
-  goes : Goes t 256 s x r d
-  goes = subst (λ (y : Standing). Goes t 256 (stands y a.regs.r a.regs.d) x r d) q g
+  laid : (x : Result Going Stop) {b z : List ℕ} {i n : ℕ} → Laid b i (turn_part t p x) n z → Laid b i (turn_part t (stand_of a) x) n z
+  laid x {b} {z} {i} {n} l = subst (λ (y : Standing). Laid b i (turn_part t y x) n z) q l
 
-  told : (b : Bool) → x.on ≡ b → parts_at t s ≡ turn_part t (stand_of a) x ∷ (if x.on then parts_at t (stands x.next r d) else [])
-  told true o =
-      let n = a.frames in
-      rw o
-      (turn_on t s T (turns arm (frames t) 256 s) (sym goes.on ∙ o)
-      ∙ ap (λ (f : Frame). (opening n ++ outlined_frame t n f) ∷ parts_at t T.next) (sym goes.frame)
-      ∙ ap (λ (y : General.Standing arm). (opening n ++ outlined_frame t n x.frame) ∷ parts_at t y) (sym (goes.next o))
-      ∙ ap (λ y. y ∷ parts_at t (stands x.next r d)) (sym (append_assoc (opening n) (frame_line n x.frame) (region_lines t x.frame))))
-  told false o =
-      rw (o, goes.stop, append-nil) (turn-off t s T (turns arm (frames t) 256 s) h.room (sym goes.on ∙ o))
-
-  next-stands : x.on ≡ true → Stands t (next_at a x.next r d)
-  next-stands o =
-      let e = turns arm (frames t) 256 s in
-      let on : T.on ≡ true = sym goes.on ∙ o in
+  -- one that goes on
+  pub turn-writes : (x : Going) → Goes t 256 (stands p a.regs.r a.regs.d) (Ok x) r d → {b z : List ℕ} {i n : ℕ} → Laid b i (turn_part t p (Ok x)) n z
+      → TurnWrites t a b i (record { place = n; next = Some (next_at a x.next r d) }) z
+  turn-writes x g l =
+      let y = turning_in s (Ok x) r d in
+      let e = met (Ok x) g in
       record {
-        checks = h.checks;
-        table = h.table;
-        small = rw (goes.next o) (turn_small t s T e on h.small);
-        room = subst (λ (y : General.Standing arm). y.frames ≤ 256) (sym (goes.next o)) (turn-room t s T e on);
+        part = turn_part t (stand_of a) (Ok x);
+        laid = laid (Ok x) l;
+        parts = turn_on t s y e refl
+            ∙ ap (λ m. m ∷ parts_at t (stands x.next r d)) (sym (append_assoc (opening a.frames) (frame_line a.frames x.frame) (region_lines t x.frame)));
+        short = part_length t (stand_of a) (Ok x) (omega (arith, h.room));
+        follows = record {
+          same = refl;
+          stands = record { checks = h.checks; table = h.table; small = turn_small t s y e refl h.small; room = turn-room t s y e refl };
+          further = turn-further t s y e refl;
+        };
       }
 
-  pub turn-writes : {b z : List ℕ} {i n : ℕ} → Laid b i (turn_part t p x) n z → TurnWrites t a b i (record { place = n; on = x.on; next = next_at a x.next r d }) z
-  turn-writes {b} {z} {i} {n} l = record {
-    part = turn_part t (stand_of a) x;
-    laid = laid;
-    parts = told x.on refl;
-    short = part_length t (stand_of a) x (omega (arith, h.room));
-    same = refl;
-    stands = next-stands;
-    further = λ o. ap (λ (y : General.Standing arm). y.frames) (goes.next o) ∙ turn-further t s T (turns arm (frames t) 256 s) (sym goes.on ∙ o);
+  -- the last one
+  pub last-writes : (stop : Stop) → Goes t 256 (stands p a.regs.r a.regs.d) (Err stop) r d → {b z : List ℕ} {i n : ℕ} → Laid b i (turn_part t p (Err stop)) n z
+      → TurnWrites t a b i (record { place = n; next = None }) z
+  last-writes stop g l = record {
+    part = turn_part t (stand_of a) (Err stop);
+    laid = laid (Err stop) l;
+    parts = rw append-nil (turn-off t s (turning_in s (Err stop) r d) (met (Err stop) g) h.room refl);
+    short = part_length t (stand_of a) (Err stop) (omega (arith, h.room));
+    follows = tt;
   }
-    where
-      laid : Laid b i (turn_part t (stand_of a) x) n z
-      laid = subst (λ (y : Standing). Laid b i (turn_part t y x) n z) q l

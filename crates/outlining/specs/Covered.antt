@@ -1,10 +1,8 @@
 -- The record that covers a pc (RULES 5.2): the one found, if its function is longer than the pc's offset in it. A frame's regions are those of
 -- the record that covers its pc, or none (`walk-regioned` of proofs/Covering.antt).
-use Rattle.std.specs.Prelude.{ℕ, ◌-◌, ◌<◌, ◌≡◌, ◌≢◌, []}
-use Rattle.std.proofs.Math.Option.{some}
+use Rattle.std.specs.Prelude.{ℕ, ◌-◌, ◌<◌, ◌≡◌, ◌≢◌, [], Some, Ok}
 use Rattle.words.specs.Bits.{even}
 use Rattle.words.specs.declared.Place.TheVariants.{Leaf}
-use Rattle.words.specs.Answer.{ok}
 use Rattle.unwinding.specs.Shape.{Shape}
 use Rattle.pdata.specs.declared.Entry.{Entry}
 use Rattle.pdata.specs.Pdata.{find}
@@ -19,9 +17,9 @@ abbrev pub offset_in : Inputs → (pc : ℕ) → Entry → ℕ
 offset_in t pc e = even pc - t.image - e.start
 
 pub record Covers (t : Inputs) (pc : ℕ) (e : Entry) : Type 0 where
-  pub found : find t.image t.pdata pc ≡ ok (some e)
+  pub found : find t.image t.pdata pc ≡ Ok (Some e)
   pub shape : Shape
-  pub read : shape_of t.xdata e ≡ ok shape
+  pub read : shape_of t.xdata e ≡ Ok shape
   pub inside : offset_in t pc e < shape.span
 
 -- a frame that a record covers is no leaf and has that record's regions; one that none covers is a leaf and has none

@@ -7,8 +7,7 @@
 --       * 0000101a 00001020 00003009 00001090
 --   1 00402010 00020014 body
 --   end frames 2 codes 2
-use Rattle.std.specs.Prelude.{ℕ, ◌+◌, ◌-◌, List, [], ◌∷◌, ◌++◌, eqb, if◌then◌else◌}
-use Rattle.std.proofs.Math.Option.{Option}
+use Rattle.std.specs.Prelude.{ℕ, ◌+◌, ◌-◌, List, [], ◌∷◌, ◌++◌, eqb, if◌then◌else◌, Option}
 use Rattle.words.specs.Bits.{bits}
 use Rattle.words.specs.declared.Place.{Place}
 use Rattle.words.specs.declared.Place.TheVariants.{Leaf, Prologue, Body, Epilogue}

@@ -3,7 +3,7 @@
 #![tactic(auto)]
 
 ghost use mathlib.Core.List.{[], flatten};
-ghost use Rattle.std.specs.Prelude.{◌≡◌, ◌-◌, ◌≤◌, length};
+ghost use Rattle.std.specs.Prelude.{◌≡◌, ◌-◌, ◌≤◌, length, IfOk};
 ghost use Rattle.pdata.specs.Pdata.{find, checked as starts_of};
 ghost use Rattle.frame.specs.Frame.{inputs};
 ghost use Rattle.text.specs.Overlay.{overlay, Laid};
@@ -12,11 +12,11 @@ ghost use Rattle.outlining.specs.Outlined.{regions_by, regions_found, region_lin
 ghost use Rattle.outlining.specs.AsCoded.Parts.{opening, turn_part as spec_turn_part, next_at, Stands, TurnWrites, Ready, Writes, begun_at, inputs_at, standing_at, parts_at};
 
 use machine::Regs;
-use pdata::{Checked, Entry, Found};
+use pdata::{Checked, Entry};
 use report::{Parts, read_report};
 use text::put_text;
-use walking::{Frame, Going, Standing};
-use words::{Place, Verdict};
+use walking::{Frame, Going, Standing, Stop};
+use words::{Place, Refusal};
 
 // No part is larger, and no outline.
 pub const PART_BYTES: usize = 12288;
@@ -36,19 +36,11 @@ pub struct At {
     pub codes: usize,
 }
 
-// A part that was laid: the place behind it in the buffer, whether another one follows, and where the outline stands then.
+// A part that was laid: the place behind it in the buffer, and where the outline stands then, if another one follows.
 #[derive(Clone, Copy)]
 pub struct Part {
     pub place: usize,
-    pub on: bool,
-    pub next: At,
-}
-
-// A report that was read, and where its outline begins.
-#[derive(Clone, Copy)]
-pub struct Begun {
-    pub verdict: Verdict,
-    pub at: At,
+    pub next: Option<At>,
 }
 
 // An address as an RVA.
@@ -93,11 +85,10 @@ fn put_found(
     requires { starts ≡ starts_of pdata.now }
     ensures { Laid out.old at (regions_text (pc - image) (regions_found (inputs image pdata.now rva xdata.now 0 []) (find image pdata.now pc))) result out.new }
 {
-    let found = pdata::find_in(starts, image, pdata, pc);
-    match found {
-        Found::Record(e) => put_record(out, at, image, rva, xdata, e, pc),
-        Found::Nothing => put_text(out, at, b""),
-        Found::Refused(_) => put_text(out, at, b""),
+    match pdata::find_in(starts, image, pdata, pc) {
+        Ok(Some(e)) => put_record(out, at, image, rva, xdata, e, pc),
+        Ok(None) => put_text(out, at, b""),
+        Err(_) => put_text(out, at, b""),
     }
 }
 
@@ -144,18 +135,17 @@ fn put_turn(
     rva: u32,
     xdata: &[u8],
     s: Standing,
-    x: Going,
+    x: Result<Going, Stop>,
 ) -> usize
     requires { starts ≡ starts_of pdata.now }
     ensures { Laid out.old at (spec_turn_part (inputs image pdata.now rva xdata.now 0 []) s x) result out.new }
 {
-    let frame = x.frame;
     let next = put_opening(out, at, s.frames);
     let next = listing::put_turn(out, next, s, x);
-    if x.on {
-        return put_lines(out, next, starts, image, pdata, rva, xdata, frame);
+    match x {
+        Ok(going) => put_lines(out, next, starts, image, pdata, rva, xdata, going.frame),
+        Err(_) => next,
     }
-    next
 }
 
 // Where an outline stands after a turn that left these registers.
@@ -211,10 +201,12 @@ fn turn_part(pdata: &[u8], xdata: &[u8], stack: &[u8], a: At, out: &mut [u8], at
         256,
     );
     let place = put_turn(out, at, starts, parts.image, pdata, parts.rva, xdata, s, x);
-    Part {
-        place,
-        on: x.on,
-        next: moved(a, x.next, r, d),
+    match x {
+        Ok(going) => Part {
+            place,
+            next: Some(moved(a, going.next, r, d)),
+        },
+        Err(_) => Part { place, next: None },
     }
 }
 
@@ -224,14 +216,10 @@ pub fn next_part(file: &[u8], a: At, out: &mut [u8], at: usize) -> Part
     ensures { Writes file.now a out.old at result out.new }
 {
     let p = a.parts;
-    let pdata = p.pdata;
-    let xdata = p.xdata;
-    let stack = p.stack;
-    let end = p.end;
     turn_part(
-        &file[pdata..xdata],
-        &file[xdata..stack],
-        &file[stack..end],
+        &file[p.pdata..p.xdata],
+        &file[p.xdata..p.stack],
+        &file[p.stack..p.end],
         a,
         out,
         at,
@@ -239,36 +227,28 @@ pub fn next_part(file: &[u8], a: At, out: &mut [u8], at: usize) -> Part
 }
 
 // Before the first part: the report is read, and its tables are checked, once.
-pub fn begin(file: &[u8]) -> Begun
-    ensures { result ≡ begun_at file.now }
+pub fn begin(file: &[u8]) -> Result<At, Refusal>
+    ensures value { result ≡ begun_at file.now }
+    ensures ready { IfOk result (Ready file.now) }
 {
-    let p = read_report(file);
-    let verdict = p.verdict;
-    let pdata = p.pdata;
-    let xdata = p.xdata;
-    let stack = p.stack;
-    let end = p.end;
-    let regs = p.regs;
+    let parts = read_report(file)?;
+    let pdata = &file[parts.pdata..parts.xdata];
     let checked = frame::check(
-        &file[pdata..xdata],
-        p.rva,
-        &file[xdata..stack],
-        p.base,
-        &file[stack..end],
+        pdata,
+        parts.rva,
+        &file[parts.xdata..parts.stack],
+        parts.base,
+        &file[parts.stack..parts.end],
     );
-    let starts = pdata::check(&file[pdata..xdata]);
-    Begun {
-        verdict,
-        at: At {
-            parts: p,
-            checked,
-            starts,
-            regs,
-            end: false,
-            frames: 0,
-            codes: 0,
-        },
-    }
+    Ok(At {
+        parts,
+        checked,
+        starts: pdata::check(pdata),
+        regs: parts.regs,
+        end: false,
+        frames: 0,
+        codes: 0,
+    })
 }
 
 // All parts from where an outline stands, one behind the other from the buffer's start.
@@ -277,15 +257,15 @@ fn put_parts(file: &[u8], a: At, out: &mut [u8]) -> usize
     ensures { Laid out.old 0 (flatten (parts_at (inputs_at file.now a) (standing_at a))) result out.new }
 {
     let mut s = a;
-    let mut next = 0;
-    let mut on = true;
-    while on {
-        let part = next_part(file, s, out, next);
-        next = part.place;
-        on = part.on;
-        s = part.next;
+    let mut place = 0;
+    loop {
+        let part = next_part(file, s, out, place);
+        place = part.place;
+        match part.next {
+            Some(next) => s = next,
+            None => return place,
+        }
     }
-    next
 }
 
 // The outline of a report: OUTLINE_BYTES are always enough for it.
@@ -293,10 +273,8 @@ pub fn outline_report(file: &[u8], out: &mut [u8]) -> usize
     ensures value { (result ≡ length (outlined file.now)) × (out.new ≡ overlay out.old 0 (outlined file.now)) }
     ensures upper_bound { result ≤ 2747253 }
 {
-    let begun = begin(file);
-    let verdict = begun.verdict;
-    match verdict {
-        Verdict::Given => put_parts(file, begun.at, out),
-        Verdict::Refused(why) => listing::put_refusal(out, why),
+    match begin(file) {
+        Ok(at) => put_parts(file, at, out),
+        Err(why) => listing::put_refusal(out, why),
     }
 }

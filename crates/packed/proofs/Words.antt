@@ -1,5 +1,6 @@
 -- The fields of a packed word: which fit, which are allowed, and that writing and reading are inverse.
 -- Assumes nothing.
+use Rattle.std.specs.Prelude.{Ok, Err}
 use Prim.Native.Nat.{ℕ, ◌+◌, ◌*◌, ◌/◌, ◌%◌, ◌^◌, ◌<◌}
 use mathlib.Core.Path.{◌≡◌, refl, sym, ap, ◌∙◌}
 use mathlib.Core.Bool.{Bool, true, false}
@@ -9,7 +10,6 @@ use native.Mathlib.Nat.{add-mul-div_left, div-eq_of_lt, add-mul-mod_self_left, m
 use borrow.Author.Tests.{ltb-true, lt-ltb}
 use Rattle.words.proofs.Tests.{both}
 use Rattle.words.specs.declared.Refusal.TheVariants.{Reserved}
-use Rattle.words.specs.Answer.{ok, refuse}
 use Rattle.packed.specs.Packed.{Fit, fields, fields_fit, allowed, word_of, write_word}
 use Rattle.packed.specs.declared.Packed.{Packed}
 
@@ -31,20 +31,20 @@ true-fit p f =
     rw (lt-ltb p.flag 4 f.flag, lt-ltb p.length.0 2048 f.length, lt-ltb p.ret 4 f.ret, lt-ltb p.h 2 f.h, lt-ltb p.reg 8 f.reg, lt-ltb p.r 2 f.r, lt-ltb p.l 2 f.l, lt-ltb p.c 2 f.c, lt-ltb p.adjust 1024 f.adjust)
     refl
 
-pub write-given : (p : Packed) → fields_fit p ≡ true → allowed p ≡ true → write_word p ≡ ok (word_of p)
+pub write-given : (p : Packed) → fields_fit p ≡ true → allowed p ≡ true → write_word p ≡ Ok (word_of p)
 unfolding write_word
 write-given p f h = rw (f, h) refl
 
 -- a field that does not fit its bits is refused by 4 (RULES 9.55), and so are fields that are not allowed
-pub write-large : (p : Packed) → fields_fit p ≡ false → write_word p ≡ refuse Reserved
+pub write-large : (p : Packed) → fields_fit p ≡ false → write_word p ≡ Err Reserved
 unfolding write_word
 write-large p h = rw h refl
 
-pub write-not-allowed : (p : Packed) → allowed p ≡ false → write_word p ≡ refuse Reserved
+pub write-not-allowed : (p : Packed) → allowed p ≡ false → write_word p ≡ Err Reserved
 unfolding write_word
 write-not-allowed p h = go (fields_fit p) refl
   where
-    go : (t : Bool) → fields_fit p ≡ t → write_word p ≡ refuse Reserved
+    go : (t : Bool) → fields_fit p ≡ t → write_word p ≡ Err Reserved
     go true f = rw (f, h) refl
     go false f = write-large p f
 
@@ -119,7 +119,7 @@ word_small : (p : Packed) → Fit p → word_of p < 2 ^ 32
 word_small p f = omega (arith, f.flag, f.length, f.ret, f.h, f.reg, f.r, f.l, f.c, f.adjust)
 
 -- the writer and the reader are inverse on what they accept
-pub write-then-read : (p : Packed) (w : ℕ) → write_word p ≡ ok w → (fields w ≡ p) × (w < 2 ^ 32)
+pub write-then-read : (p : Packed) (w : ℕ) → write_word p ≡ Ok w → (fields w ≡ p) × (w < 2 ^ 32)
 write-then-read p w h = go (fields_fit p) refl (allowed p) refl
   where
     go : (s : Bool) → fields_fit p ≡ s → (t : Bool) → allowed p ≡ t → (fields w ≡ p) × (w < 2 ^ 32)
@@ -129,5 +129,5 @@ write-then-read p w h = go (fields_fit p) refl (allowed p) refl
     go true f false e = absurd (let z : ◌≡◌ {A = ℕ} 0 1 = cc (write-not-allowed p e) in omega arith)
     go false f t e = absurd (let z : ◌≡◌ {A = ℕ} 0 1 = cc (write-large p f) in omega arith)
 
-pub read-then-write : (w : ℕ) → w < 2 ^ 32 → allowed (fields w) ≡ true → write_word (fields w) ≡ ok w
-read-then-write w h a = write-given (fields w) (true-fit (fields w) (fields_fit_lem w)) a ∙ ap ok (word-of-fields w h)
+pub read-then-write : (w : ℕ) → w < 2 ^ 32 → allowed (fields w) ≡ true → write_word (fields w) ≡ Ok w
+read-then-write w h a = write-given (fields w) (true-fit (fields w) (fields_fit_lem w)) a ∙ ap Ok (word-of-fields w h)

@@ -4,15 +4,14 @@
 --  | Stack Adjust | C| L| R| Reg  | H|  Ret | length / 2 | Flag |
 --
 -- Flag is 1, or 2 if there is no prologue (RULES 2.2).
-use Rattle.std.specs.Prelude.{ℕ, ◌+◌, ◌-◌, ◌*◌, ◌%◌, ◌^◌, ◌<◌, Bool, ◌&&◌, ◌||◌, not, leb, ltb, eqb, if◌then◌else◌}
+use Rattle.std.specs.Prelude.{ℕ, ◌+◌, ◌-◌, ◌*◌, ◌%◌, ◌^◌, ◌<◌, Bool, ◌&&◌, ◌||◌, not, leb, ltb, eqb, if◌then◌else◌, Ok}
 use Rattle.words.specs.declared.StackWords.{StackWords}
 use Rattle.words.specs.declared.Refusal.TheVariants.{Reserved}
 use Rattle.words.specs.Bits.{bits, bit}
 use Rattle.words.specs.Units.{halfwords, halfword_bytes, stack_words}
-use Rattle.words.specs.Answer.{Res, ok, need, verdict, or_else, ◌>>◌}
+use Rattle.words.specs.Answer.{Res, need, ◌>>◌}
 use Rattle.codes.specs.Table.{range}
 use Rattle.packed.specs.declared.Packed.{Packed}
-use Rattle.packed.specs.declared.WordOf.{WordOf}
 
 abbrev pub fields : ℕ → Packed
 fields w =
@@ -41,10 +40,7 @@ allowed p =
 unfoldable pub write_word : Packed → Res ℕ
 write_word p = do
   need (fields_fit p && allowed p) Reserved
-  ok (word_of p)
-
-abbrev pub word_answer : Res ℕ → WordOf
-word_answer r = record { verdict = verdict r; word = or_else r 0 }
+  Ok (word_of p)
 
 -- what Stack Adjust says: the amount, and whether push (PF) and pop (EF) make it (RULES 4.2)
 abbrev pub folded : Packed → Bool

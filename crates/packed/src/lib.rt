@@ -4,12 +4,13 @@
 
 ghost use Rattle.std.specs.Prelude.{◌≡◌, ◌+◌, ◌-◌, ◌*◌, ◌%◌, ◌^◌, ◌<◌, ◌≤◌, eqb, if◌then◌else◌};
 ghost use Rattle.codes.specs.Table.{range as range_of, lr_if as spec_lr_if};
-ghost use Rattle.packed.specs.Packed.{Fit, fields as fields_of, fields_fit as spec_fields_fit, allowed as allowed_of, word_of, write_word as spec_write_word, word_answer, folded as folded_of, amount as amount_of, PF, EF, integers as integers_of};
+ghost use Rattle.packed.specs.Packed.{Fit, fields as fields_of, fields_fit as spec_fields_fit, allowed as allowed_of, word_of, write_word as spec_write_word, folded as folded_of, amount as amount_of, PF, EF, integers as integers_of};
 
 use codes::list::{from_r4, lr_if, range};
-use words::{Halfwords, Refusal, StackWords, Verdict, bit, bits};
+use words::{Halfwords, Refusal, StackWords, bit, bits};
 
 // The fields of a packed word: Flag, length / 2, Ret, H, Reg, R, L, C, Stack Adjust (RULES 4.1).
+// `Fit` is no invariant: a C caller's fields may be too large, which `write_word` refuses.
 #[derive(Clone, Copy)]
 pub struct Packed {
     pub flag: u32,
@@ -21,13 +22,6 @@ pub struct Packed {
     pub l: u32,
     pub c: u32,
     pub adjust: u32,
-}
-
-// A packed word; 0 where it is refused.
-#[derive(Clone, Copy)]
-pub struct WordOf {
-    pub verdict: Verdict,
-    pub word: u32,
 }
 
 // The fields of a packed word.
@@ -91,19 +85,13 @@ fn word_of(p: Packed) -> u32
 }
 
 // The packed word of these fields.
-pub fn write_word(p: Packed) -> WordOf
-    ensures { result ≡ word_answer (spec_write_word p) }
+pub fn write_word(p: Packed) -> Result<u32, Refusal>
+    ensures { result ≡ spec_write_word p }
 {
     if fields_fit(p) && allowed(p) {
-        return WordOf {
-            verdict: Verdict::Given,
-            word: word_of(p),
-        };
+        return Ok(word_of(p));
     }
-    WordOf {
-        verdict: Verdict::Refused(Refusal::Reserved),
-        word: 0,
-    }
+    Err(Refusal::Reserved)
 }
 
 // Whether Stack Adjust holds PF and EF beside the amount.

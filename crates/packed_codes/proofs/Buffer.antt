@@ -7,7 +7,8 @@ use lib.ListN.{length, take, replicate, set, length-append}
 use lib.Seq.{set-append_seam, append_snoc, take-append-add}
 use native.Mathlib.Omega.{arith}
 use borrow.Author.Tests.{lt-ltb}
-use Rattle.packed_codes.specs.AsCoded.Out.{Out, put_of, puts}
+use Rattle.packed_codes.specs.declared.Out.{Out}
+use Rattle.packed_codes.specs.AsCoded.Out.{put_of, puts}
 
 -- one piece after another
 pub joined : (o : Out) {x y : Out} (a b : List ℕ) → x ≡ puts o a → y ≡ puts x b → y ≡ puts o (a ++ b)
@@ -22,7 +23,7 @@ nothing o e = ap (puts o) (sym e)
 
 -- the bytes of a list that was written on a blank
 abbrev pub holding : List ℕ → Out
-holding l = (l ++ replicate (16 - length l) 0, length l)
+holding l = record { bytes = l ++ replicate (16 - length l) 0; len = length l }
 
 put-holding : (l : List ℕ) (b : ℕ) → length l < 16 → put_of (holding l) b ≡ holding (l ++ (b ∷ []))
 unfolding put_of
@@ -32,7 +33,7 @@ put-holding l b h =
     let room : 16 - length l ≡ suc left = omega arith in
     let bytes : set (l ++ replicate (16 - length l) 0) (length l) b ≡ l ++ (b ∷ []) ++ replicate left 0 =
     ap (λ k. set (l ++ replicate k 0) (length l) b) room ∙ set-append_seam l 0 (replicate left 0) b ∙ sym (append_snoc l b (replicate left 0)) in
-    rw (lt-ltb (length l) 16 h) (λ i. (bytes i, sym one i))
+    rw (lt-ltb (length l) 16 h) (λ i. record { bytes = bytes i; len = sym one i })
 
 pub puts-holding : (a l : List ℕ) → length a + length l ≤ 16 → puts (holding a) l ≡ holding (a ++ l)
 unfolding puts
@@ -47,7 +48,7 @@ take-zeros (suc n) zero h = absurd (let z : suc n ≤ 0 = h in omega arith)
 take-zeros (suc n) (suc m) h = ap (λ (l : List ℕ). 0 ∷ l) (take-zeros n m (omega arith))
 
 -- 16 bytes of a list and of zeros after it
-pub holding-bytes : (l : List ℕ) → length l ≤ 16 → take 16 (l ++ replicate 16 0) ≡ (holding l).0
+pub holding-bytes : (l : List ℕ) → length l ≤ 16 → take 16 (l ++ replicate 16 0) ≡ (holding l).bytes
 holding-bytes l h =
     let e : 16 ≡ length l + (16 - length l) = omega arith in
     ap (λ n. take n (l ++ replicate 16 0)) e ∙ take-append-add l (replicate 16 0) (16 - length l)

@@ -12,7 +12,6 @@ use native.Mathlib.Omega.{arith}
 use borrow.Author.Tests.{eqb-true, eqb-false, eq-eqb, ne_eqb}
 use Rattle.words.specs.Units.{code_bytes, stack_words}
 use Rattle.words.specs.declared.Halfwords.{Halfwords}
-use Rattle.words.specs.declared.Verdict.TheVariants.{Given}
 use Rattle.words.proofs.Tests.{both}
 use Rattle.unwinding.specs.CodeList.{total}
 use Rattle.unwinding.proofs.Ends.{total-append}
@@ -95,7 +94,7 @@ codes-kept p h = ap (λ (l : List Code). record { list = l; end_size = 0 }) (pro
 
 written-kept : (p : Packed) → chain_alone (pushed p) ≡ false → written p ≡ written_before p
 written-kept p h =
-    ap (λ (l : List ℕ). record { verdict = Given; bytes = take 16 (l ++ second_list p ++ replicate 16 0); first = code_bytes (length l); second = code_bytes (length (second_list p)) }) (first-kept p h)
+    ap (λ (l : List ℕ). record { bytes = take 16 (l ++ second_list p ++ replicate 16 0); first = code_bytes (length l); second = code_bytes (length (second_list p)) }) (first-kept p h)
 
 -- ---- these
 -- what stands before the nop in the list, sub and vpush, and behind it, the pushes

@@ -1,6 +1,6 @@
 -- The code bytes of a packed word are its two lists, the prologue's in reverse and the epilogue's, each up to its end code, then zeros.
 -- Assumes nothing.
-use Rattle.std.specs.Prelude.{if◌then◌else◌}
+use Rattle.std.specs.Prelude.{if◌then◌else◌, Ok, Err}
 use Prim.Native.Nat.{ℕ, zero, suc, ◌+◌, ◌-◌, ◌≤◌, ◌<◌}
 use mathlib.Core.Path.{◌≡◌, refl, sym, ap, ap₂, subst, ◌∙◌}
 use mathlib.Core.List.{List, [], ◌∷◌, ◌++◌, append_assoc, append-nil, reverse, reverse-append}
@@ -15,7 +15,7 @@ use Rattle.words.specs.Units.{code_bytes, halfwords, halfword_bytes}
 use Rattle.words.specs.declared.Halfwords.{Halfwords}
 use Rattle.words.specs.declared.Refusal.TheVariants.{BadCodes}
 use Rattle.words.proofs.Tests.{both}
-use Rattle.words.specs.Answer.{Res, ok, refuse, ◌>>=◌}
+use Rattle.words.specs.Answer.{Res, ◌>>=◌}
 use Rattle.unwinding.specs.CodeList.{Codes}
 use Rattle.codes.specs.Table.{rows, row_in, bits32}
 use Rattle.unwinding.specs.Taking.{Scan, scan_from}
@@ -42,7 +42,7 @@ record Ended (bs : List ℕ) (c : Codes Code) : Type 0 where
   end : ℕ
   bytes : bs ≡ before ++ (end ∷ [])
   codes : Reads before c.list
-  ends : (at : ℕ) (rest : List ℕ) → scan_from taking bytes_of at (end ∷ rest) 0 ≡ record { list = []; ending = ok c.end_size }
+  ends : (at : ℕ) (rest : List ℕ) → scan_from taking bytes_of at (end ∷ rest) 0 ≡ record { list = []; ending = Ok c.end_size }
 
 abbrev ahead : List Code → Codes Code → Codes Code
 ahead cs c = record { list = cs ++ c.list; end_size = c.end_size }
@@ -159,28 +159,28 @@ module _ (p : Packed) (w : Fit p) where
 
 -- ---- among other bytes
 abbrev codes_of : Scan Code → Res (Codes Code)
-codes_of s = s.ending >>= λ n. ok (record { list = s.list; end_size = n })
+codes_of s = s.ending >>= λ n. Ok (record { list = s.list; end_size = n })
 
 module _ (k bs : List ℕ) (c : Codes Code) (e : Ended bs c) where
-  scanned : (rest : List ℕ) → scan_from taking bytes_of (length k) (bs ++ rest) 0 ≡ record { list = c.list; ending = ok c.end_size }
+  scanned : (rest : List ℕ) → scan_from taking bytes_of (length k) (bs ++ rest) 0 ≡ record { list = c.list; ending = Ok c.end_size }
   scanned rest =
       ap (λ l. scan_from taking bytes_of (length k) (l ++ rest) 0) e.bytes
       ∙ ap (λ l. scan_from taking bytes_of (length k) l 0) (append_assoc e.before (e.end ∷ []) rest)
       ∙ e.codes.read (length k) (e.end ∷ rest)
       ∙ ap (λ s. record { list = c.list ++ s.list; ending = s.ending }) (e.ends (length k + length e.before) rest)
-      ∙ ap (λ l. record { list = l; ending = ok c.end_size }) (append-nil c.list)
+      ∙ ap (λ l. record { list = l; ending = Ok c.end_size }) (append-nil c.list)
 
   -- whatever follows the list
-  read-there : (rest : List ℕ) → codes_at (k ++ (bs ++ rest)) (code_bytes (length k)) ≡ ok c
+  read-there : (rest : List ℕ) → codes_at (k ++ (bs ++ rest)) (code_bytes (length k)) ≡ Ok c
   read-there rest =
       ap codes_of (scan-at takes (k ++ (bs ++ rest)) (length k) ∙ ap (λ l. scan_from taking bytes_of (length k) l 0) (drop-append_seam k (bs ++ rest)) ∙ scanned rest)
 
   -- and not without its last byte
-  no_end : codes_at (k ++ e.before) (code_bytes (length k)) ≢ ok c
+  no_end : codes_at (k ++ e.before) (code_bytes (length k)) ≢ Ok c
   unfolding scan_from
   no_end q =
       let s = scan-at takes (k ++ e.before) (length k) ∙ ap (λ l. scan_from taking bytes_of (length k) l 0) (drop-append_seam k e.before ∙ sym (append-nil e.before)) ∙ e.codes.read (length k) [] in
-      let r : ◌≡◌ {A = Res (Codes Code)} (refuse (BadCodes (code_bytes (length k + length e.before + 0)))) (ok c) = sym (ap codes_of s) ∙ q in
+      let r : ◌≡◌ {A = Res (Codes Code)} (Err (BadCodes (code_bytes (length k + length e.before + 0)))) (Ok c) = sym (ap codes_of s) ∙ q in
       let z : ◌≡◌ {A = ℕ} 0 1 = cc in omega arith
 
   stands : (rest : List ℕ) → Stands (k ++ (bs ++ rest)) (code_bytes (length k)) (code_bytes (length bs)) c

@@ -1,10 +1,9 @@
 -- Each list of a packed word takes at most 8 bytes, so both fit 16.
 -- Assumes nothing.
-use Rattle.std.specs.Prelude.{if◌then◌else◌}
+use Rattle.std.specs.Prelude.{if◌then◌else◌, Option, None, Some}
 use Prim.Native.Nat.{ℕ, ◌+◌, ◌≤◌}
 use mathlib.Core.List.{List, [], ◌∷◌, ◌++◌}
 use mathlib.Core.Bool.{Bool, true, false, not, ◌&&◌}
-use mathlib.Core.Option.{Option, none, some}
 use lib.ListN.{length, length-append}
 use lib.Dec.{leb, eqb}
 use native.Mathlib.Omega.{arith}
@@ -45,8 +44,8 @@ vpop-short : (p : Packed) → Short (vpop_code p) 1
 vpop-short p = when-short (eqb p.r 1 && not (eqb p.reg 7)) one
 
 d-short : (x : Option ℕ) (f b : ℕ) {other : List ℕ} → Short other 2 → Short (d_form x f b other) 2
-d-short none f b s = s
-d-short (some x) f b s = more 2 one (omega arith)
+d-short None f b s = s
+d-short (Some x) f b s = more 2 one (omega arith)
 
 pop-short : (narrow : Bool) (l b : ℕ) → Short (pop_code narrow l b) 2
 pop-short true l b = when-short (not (eqb (l + b) 0)) (d-short (up_to 4 4 l) 0xD0 b two)

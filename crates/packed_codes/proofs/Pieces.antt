@@ -1,11 +1,10 @@
 -- The codes that a packed word's lists are made of, by what its fields are.
 -- Assumes nothing.
-use Rattle.std.specs.Prelude.{if◌then◌else◌}
-use Prim.Native.Nat.{ℕ, suc, ◌+◌, ◌-◌, ◌*◌, ◌%◌, ◌≤◌, ◌<◌}
+use Rattle.std.specs.Prelude.{if◌then◌else◌, None, Some}
+use Prim.Native.Nat.{ℕ, suc, ◌+◌, ◌-◌, ◌%◌, ◌≤◌, ◌<◌}
 use mathlib.Core.Path.{◌≡◌, refl}
-use mathlib.Core.List.{List, [], ◌∷◌, ◌++◌}
+use mathlib.Core.List.{[], ◌∷◌, ◌++◌}
 use mathlib.Core.Bool.{Bool, true, false, ◌&&◌, not}
-use mathlib.Core.Option.{Option, none, some}
 use lib.Dec.{eqb}
 use native.Mathlib.Omega.{arith}
 use borrow.Author.Tests.{lt-ltb, le-ltb, eq-eqb, ne_eqb}
@@ -14,10 +13,8 @@ use Rattle.words.specs.Units.{stack_words}
 use Rattle.codes.specs.Table.{range, lr_if}
 use Rattle.packed.specs.Packed.{Fit, fields, amount, folded, EF, integers}
 use Rattle.packed.proofs.Words.{fields_fit_lem}
-use Rattle.packed_codes.specs.PackedCodes.{when, up_code, vpop_code, up_to, d_form, pop_sized, pop_code, low, leave, second_list}
+use Rattle.packed_codes.specs.PackedCodes.{when, up_code, vpop_code, up_to, pop_sized, pop_code, low, leave, second_list}
 use Rattle.packed.specs.declared.Packed.{Packed}
-use Rattle.packed_codes.specs.AsCoded.Out.{top_of}
-use Rattle.packed_codes.specs.declared.Top.TheVariants.{Register, Other}
 
 -- what is read from a word fits its fields
 pub read-fit : (w : ℕ) (p : Packed) → p ≡ fields w → Fit p
@@ -74,7 +71,7 @@ second-some p h = rw (ne_eqb p.ret 3 h) refl
 
 -- the X of a list r4-rX, among the numbers from x up to another
 module _ (l x e : ℕ) where
-  pub top-here : x < e → l ≡ range 4 x → up_to (e - x) x l ≡ some x
+  pub top-here : x < e → l ≡ range 4 x → up_to (e - x) x l ≡ Some x
   unfolding up_to
   top-here h k = let n : e - x ≡ suc (e - (x + 1)) = omega arith in rw (n, eq-eqb l (range 4 x) k) refl
 
@@ -82,15 +79,6 @@ module _ (l x e : ℕ) where
   unfolding up_to
   top-later h k = let n : e - x ≡ suc (e - (x + 1)) = omega arith in rw (n, ne_eqb l (range 4 x) k) refl
 
-  pub top-none : e ≤ x → up_to (e - x) x l ≡ none
+  pub top-none : e ≤ x → up_to (e - x) x l ≡ None
   unfolding up_to
   top-none h = let n : e - x ≡ 0 = omega arith in rw n refl
-
--- the D form by the X that was found
-pub d-register : (t : Option ℕ) (x f b : ℕ) (other : List ℕ) → top_of t ≡ Register x → d_form t f b other ≡ (f + x % 4 + 4 * b) ∷ []
-d-register none x f b other h = absurd (let z : ◌≡◌ {A = ℕ} 0 1 = cc in omega arith)
-d-register (some y) x f b other h = let e : y ≡ x = cc in rw e refl
-
-pub d-other : (t : Option ℕ) (f b : ℕ) (other : List ℕ) → top_of t ≡ Other → d_form t f b other ≡ other
-d-other none f b other h = refl
-d-other (some y) f b other h = absurd (let z : ◌≡◌ {A = ℕ} 0 1 = cc in omega arith)

@@ -1,11 +1,10 @@
 -- Code bytes that hold whole codes: what they are read as, whatever follows them; and those of a list up to its end code.
 -- Assumes nothing.
-use Rattle.std.specs.Prelude.{if◌then◌else◌}
+use Rattle.std.specs.Prelude.{if◌then◌else◌, Ok, Option, None, Some}
 use Prim.Native.Nat.{ℕ, zero, suc, ◌+◌, ◌*◌, ◌/◌, ◌%◌, ◌^◌, ◌≤◌, ◌<◌}
 use mathlib.Core.Path.{◌≡◌, refl, sym, ap, ap₂, ◌∙◌}
 use mathlib.Core.List.{List, [], ◌∷◌, ◌++◌, append_assoc}
 use mathlib.Core.Bool.{Bool, true, false, not}
-use mathlib.Core.Option.{Option, none, some}
 use lib.Dec.{leb, eqb}
 use lib.ListN.{length, length-append}
 use native.Mathlib.Omega.{arith}
@@ -13,7 +12,6 @@ use borrow.Author.Tests.{leb-true, le-leb, lt-leb, eqb-true}
 use Rattle.words.specs.Bits.{bits}
 use Rattle.words.specs.Units.{code_bytes, stack_words, halfword_bytes}
 use Rattle.words.specs.declared.Halfwords.{Halfwords}
-use Rattle.words.specs.Answer.{ok}
 use Rattle.codes.specs.Table.{Row, row, rows, row_in, row_of, range, lr_if, bits16, bits32}
 use Rattle.unwinding.specs.Taking.{one, Scan, scan_from}
 use Rattle.unwinding.proofs.Scanning.{scan-front}
@@ -83,7 +81,7 @@ two b c r u e n m = record { read = two-read b c r u e n m }
 
 -- an end code
 pub ends : (b : ℕ) (n : Halfwords) (at : ℕ) (rest : List ℕ) → ((row_of b).bytes ≡ 1) → ((row_of b).size ≡ n) → ((v : ℕ) → (row_of b).means v ≡ End)
-    → scan_from taking bytes_of at (b ∷ rest) 0 ≡ record { list = []; ending = ok (halfword_bytes n) }
+    → scan_from taking bytes_of at (b ∷ rest) 0 ≡ record { list = []; ending = Ok (halfword_bytes n) }
 unfolding scan_from take_from value
 ends b n at rest e z m =
     let l : leb 1 (length (b ∷ rest)) ≡ true = le-leb 1 (length (b ∷ rest)) (omega arith) in
@@ -157,13 +155,13 @@ record UpTo (n x l y : ℕ) : Type 0 where
   high : y < x + n
   same : l ≡ range 4 y
 
-up-to : (n x l y : ℕ) → up_to n x l ≡ some y → UpTo n x l y
+up-to : (n x l y : ℕ) → up_to n x l ≡ Some y → UpTo n x l y
 unfolding up_to
 up-to zero x l y h = absurd (let z : ◌≡◌ {A = ℕ} 0 1 = cc in omega arith)
 up-to (suc n) x l y h = go (eqb l (range 4 x)) refl h (λ q. up-to n (x + 1) l y q)
   where
     go :
-        (t : Bool) → eqb l (range 4 x) ≡ t → (if t then some x else up_to n (x + 1) l) ≡ some y → (up_to n (x + 1) l ≡ some y → UpTo n (x + 1) l y)
+        (t : Bool) → eqb l (range 4 x) ≡ t → (if t then Some x else up_to n (x + 1) l) ≡ Some y → (up_to n (x + 1) l ≡ Some y → UpTo n (x + 1) l y)
         → UpTo (suc n) x l y
     go true e q ih = let z : x ≡ y = cc in record { low = omega arith; high = omega arith; same = eqb-true l (range 4 x) e ∙ ap (range 4) z }
     go false e q ih = let w = ih q in record { low = omega (arith, w.low); high = omega (arith, w.high); same = w.same }
@@ -173,10 +171,10 @@ abbrev popped_as : Bool → ℕ → ℕ → List Code
 popped_as w l b = only true (Pop (l + lr_if b)) (size_if w)
 
 pop-16 : (l b : ℕ) (x : Option ℕ) → up_to 4 4 l ≡ x → l < 256 → b < 2 → Reads (d_form x 0xD0 b ((0xEC + b) ∷ l ∷ [])) (popped_as true l b)
-pop-16 l b none e h k =
+pop-16 l b None e h k =
     two (0xEC + b) l _ (Pop (l + lr_if b)) (low-pop-row (0xEC + b) (omega arith) (omega arith)) refl
     (ap₂ (λ i j. Does (Pop (i + lr_if j))) (let z : bits 0 8 (256 * (256 * 0 + (0xEC + b)) + l) ≡ l = omega arith in z) (let z : bits 8 1 (256 * (256 * 0 + (0xEC + b)) + l) ≡ b = omega arith in z))
-pop-16 l b (some y) e h k =
+pop-16 l b (Some y) e h k =
     let u = up-to 4 4 l y e in
     reads-one (0xD0 + y % 4 + 4 * b) _ (Pop (l + lr_if b)) (d-row (0xD0 + y % 4 + 4 * b) (omega arith) (omega arith)) refl
     (ap₂ (λ i j. Does (Pop (range 4 i + lr_if j))) (let z : 4 + bits 0 2 (256 * 0 + (0xD0 + y % 4 + 4 * b)) ≡ y = omega (arith, u.low, u.high) in z)
@@ -184,11 +182,11 @@ pop-16 l b (some y) e h k =
     ∙ ap (λ i. Does (Pop (i + lr_if b))) (sym u.same))
 
 pop-32 : (l b : ℕ) (x : Option ℕ) → up_to 4 8 l ≡ x → l < 2 ^ 13 → b < 2 → Reads (d_form x 0xD8 b ((0x80 + l / 256 + 32 * b) ∷ (l % 256) ∷ [])) (popped_as false l b)
-pop-32 l b none e h k =
+pop-32 l b None e h k =
     two (0x80 + l / 256 + 32 * b) (l % 256) _ (Pop (l + lr_if b)) (pop-row (0x80 + l / 256 + 32 * b) (omega arith) (omega arith)) refl
     (ap₂ (λ i j. Does (Pop (i + lr_if j))) (let z : bits 0 13 (256 * (256 * 0 + (0x80 + l / 256 + 32 * b)) + l % 256) ≡ l = omega arith in z)
     (let z : bits 13 1 (256 * (256 * 0 + (0x80 + l / 256 + 32 * b)) + l % 256) ≡ b = omega arith in z))
-pop-32 l b (some y) e h k =
+pop-32 l b (Some y) e h k =
     let u = up-to 4 8 l y e in
     reads-one (0xD8 + y % 4 + 4 * b) _ (Pop (l + lr_if b)) (long-d-row (0xD8 + y % 4 + 4 * b) (omega arith) (omega arith)) refl
     (ap₂ (λ i j. Does (Pop (range 4 i + lr_if j))) (let z : 8 + bits 0 2 (256 * 0 + (0xD8 + y % 4 + 4 * b)) ≡ y = omega (arith, u.low, u.high) in z)

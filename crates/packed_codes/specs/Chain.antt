@@ -3,7 +3,6 @@
 use Rattle.std.specs.Prelude.{ℕ, ◌+◌, ◌≤◌, ◌≡◌, List, ◌∷◌, ◌++◌, reverse, [], Bool, true, false, ◌&&◌, not, length, take, replicate, eqb}
 use Rattle.words.specs.Units.{code_bytes}
 use Rattle.words.specs.declared.Halfwords.{Halfwords}
-use Rattle.words.specs.declared.Verdict.TheVariants.{Given}
 use Rattle.unwinding.specs.CodeList.{Codes, total}
 use Rattle.codes.specs.Table.{bits16, bits32}
 use Rattle.codes.specs.Code.{size}
@@ -26,7 +25,7 @@ first_before p =
 -- the code bytes as they were
 abbrev pub written_before : Packed → CodesOf
 written_before p =
-    record { verdict = Given; bytes = take 16 (first_before p ++ second_list p ++ replicate 16 0); first = code_bytes (length (first_before p)); second = code_bytes (length (second_list p)) }
+    record { bytes = take 16 (first_before p ++ second_list p ++ replicate 16 0); first = code_bytes (length (first_before p)); second = code_bytes (length (second_list p)) }
 
 -- the prologue's codes as they were
 abbrev pub codes_before : Packed → Codes Code

@@ -1,10 +1,9 @@
 -- A packed word's two code lists by their instructions, the prologue's (RULES 4.6) and the epilogue's (RULES 4.7): what undoes each, and
 -- its size. And what code bytes have to be to stand for them.
-use Rattle.std.specs.Prelude.{ℕ, ◌+◌, ◌-◌, ◌≡◌, ◌≢◌, List, ◌∷◌, ◌++◌, reverse, [], Bool, true, false, ◌&&◌, not, length, take, drop, replicate, leb, eqb, if◌then◌else◌}
+use Rattle.std.specs.Prelude.{ℕ, ◌+◌, ◌-◌, ◌≡◌, ◌≢◌, List, ◌∷◌, ◌++◌, reverse, [], Bool, true, false, ◌&&◌, not, length, take, drop, replicate, leb, eqb, if◌then◌else◌, Ok}
 use Rattle.words.specs.Units.{code_bytes, stack_words, halfword_bytes}
 use Rattle.words.specs.declared.CodeBytes.{CodeBytes}
 use Rattle.words.specs.declared.Halfwords.{Halfwords}
-use Rattle.words.specs.Answer.{ok}
 use Rattle.unwinding.specs.CodeList.{Codes}
 use Rattle.codes.specs.Table.{lr_if, bits16, bits32}
 use Rattle.codes.specs.Code.{codes_at}
@@ -67,9 +66,9 @@ epilogue_codes p = record { list = ups p (EF p) ++ vpops p ++ (leaves p).list; e
 
 -- n code bytes from an index on are read as this list, by themselves too, and not without the last of them
 pub record Stands (s : List ℕ) (i n : CodeBytes) (c : Codes Code) : Type 0 where
-  pub read : codes_at s i ≡ ok c
-  pub within : codes_at (take (i.0 + n.0) s) i ≡ ok c
-  pub last : codes_at (take (i.0 + n.0 - 1) s) i ≢ ok c
+  pub read : codes_at s i ≡ Ok c
+  pub within : codes_at (take (i.0 + n.0) s) i ≡ Ok c
+  pub last : codes_at (take (i.0 + n.0 - 1) s) i ≢ Ok c
 
 -- code bytes that hold both lists, the second unless Ret=3, with their lengths (RULES 4.16, 4.19)
 pub record Holds (p : Packed) (c : CodesOf) : Type 0 where

@@ -1,12 +1,10 @@
 -- The code bytes that a packed word stands for: the prologue's codes in reverse, then the epilogue's in its order (RULES 4.16).
-use Rattle.std.specs.Prelude.{ℕ, zero, suc, ◌+◌, ◌*◌, ◌/◌, ◌%◌, ◌^◌, List, ◌∷◌, ◌++◌, [], Bool, true, false, ◌&&◌, not, length, take, replicate, leb, ltb, eqb, if◌then◌else◌}
-use Rattle.std.proofs.Math.Option.{Option, none, some}
+use Rattle.std.specs.Prelude.{ℕ, zero, suc, ◌+◌, ◌*◌, ◌/◌, ◌%◌, ◌^◌, List, ◌∷◌, ◌++◌, [], Bool, true, false, ◌&&◌, not, length, take, replicate, leb, ltb, eqb, if◌then◌else◌, Option, None, Some, Ok}
 use Rattle.words.specs.declared.StackWords.{StackWords}
 use Rattle.words.specs.declared.Refusal.TheVariants.{Reserved}
 use Rattle.words.specs.Units.{code_bytes}
-use Rattle.words.specs.Answer.{Res, ok, refuse, need, ◌>>◌}
+use Rattle.words.specs.Answer.{Res, need, ◌>>◌}
 use Rattle.codes.specs.Table.{range, lr_if}
-use Rattle.words.specs.declared.Verdict.TheVariants.{Given, Refused}
 use Rattle.packed.specs.Packed.{fields, allowed, integers, amount, PF, EF}
 use Rattle.packed.specs.declared.Packed.{Packed}
 use Rattle.packed_codes.specs.declared.CodesOf.{CodesOf}
@@ -24,12 +22,12 @@ vpop_code p = when (eqb p.r 1 && not (eqb p.reg 7)) ((0xE0 + p.reg) ∷ [])
 
 -- the X of a list r4-rX, among the n numbers from x up
 unfoldable pub up_to : (n x list : ℕ) → Option ℕ
-up_to zero x l = none
-up_to (suc n) x l = let rest = up_to n (x + 1) l in if eqb l (range 4 x) then some x else rest
+up_to zero x l = None
+up_to (suc n) x l = let rest = up_to n (x + 1) l in if eqb l (range 4 x) then Some x else rest
 
 abbrev pub d_form : Option ℕ → (first lr : ℕ) → (other : List ℕ) → List ℕ
-d_form none f b other = other
-d_form (some x) f b other = (f + x % 4 + 4 * b) ∷ []
+d_form None f b other = other
+d_form (Some x) f b other = (f + x % 4 + 4 * b) ∷ []
 
 -- the code of a pop of 16 bits (RULES 4.14) or of 32 (RULES 4.15); LR is 0 or 1
 abbrev pub pop_sized : (narrow : Bool) → (list lr : ℕ) → List ℕ
@@ -81,14 +79,10 @@ second_list p =
 -- both lists in 16 bytes, and how long each is (RULES 4.19)
 abbrev pub written : Packed → CodesOf
 written p =
-    record { verdict = Given; bytes = take 16 (first_list p ++ second_list p ++ replicate 16 0); first = code_bytes (length (first_list p)); second = code_bytes (length (second_list p)) }
+    record { bytes = take 16 (first_list p ++ second_list p ++ replicate 16 0); first = code_bytes (length (first_list p)); second = code_bytes (length (second_list p)) }
 
 -- the code writer (RULES 4.19, 9.55)
 unfoldable pub write_codes : ℕ → Res CodesOf
 write_codes w = do
   need (allowed (fields w)) Reserved
-  ok (written (fields w))
-
-abbrev pub codes_answer : Res CodesOf → CodesOf
-codes_answer (ok c) = c
-codes_answer (refuse r) = record { verdict = Refused r; bytes = replicate 16 0; first = code_bytes 0; second = code_bytes 0 }
+  Ok (written (fields w))

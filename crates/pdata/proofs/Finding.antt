@@ -1,10 +1,10 @@
 -- The order of a .pdata table, and why halving an ascending one finds the record that the definition finds.
 -- Assumes nothing.
+use Rattle.std.specs.Prelude.{Ok, Err, None, Some}
 use Prim.Native.Nat.{ℕ, zero, suc, ◌+◌, ◌-◌, ◌*◌, ◌/◌, ◌%◌, ◌≤◌, ◌<◌}
 use mathlib.Core.Path.{◌≡◌, refl, ap, ◌∙◌}
 use mathlib.Core.Bool.{Bool, true, false, ◌&&◌}
 use mathlib.Core.List.{List, map}
-use mathlib.Core.Option.{none, some}
 use lib.ListN.{length}
 use lib.Dec.{ltb, eqb}
 use native.Mathlib.Omega.{arith}
@@ -13,7 +13,6 @@ use Rattle.words.proofs.Tests.{both}
 use Rattle.words.specs.Bits.{even}
 use Rattle.lent.specs.Little.{word32}
 use Rattle.words.specs.declared.Refusal.TheVariants.{UnfitInput, PcBelowBase, StartsNotAscending}
-use Rattle.words.specs.Answer.{ok, refuse}
 use Rattle.unwinding.specs.View.{ascending}
 use Rattle.pdata.specs.Pdata.{entries_from, entries, entry_at, starts, last_up_to, find, find_rva}
 
@@ -63,7 +62,7 @@ ascending-goes-on s i n h q = ascending-next s i n h ∙ rw (lt-ltb (start_at s 
 -- where the first of n records starts above an RVA, all do
 above :
     (s : List ℕ) (a n i : ℕ) → ascending (map (λ e. e.start) (entries_from s i (suc n))) ≡ true → a < start_at s i
-    → last_up_to (entries_from s i (suc n)) a ≡ none
+    → last_up_to (entries_from s i (suc n)) a ≡ None
 unfolding entries_from last_up_to
 above s a zero i up h = rw (lt-leb (start_at s i) a h) refl
 above s a (suc n) i up h =
@@ -74,7 +73,7 @@ above s a (suc n) i up h =
 -- the last of the m + 1 first records that start at or below it is the one found
 last :
     (s : List ℕ) (a m i n j : ℕ) → j ≡ i + m → m < n → ascending (map (λ e. e.start) (entries_from s i n)) ≡ true → start_at s j ≤ a
-    → (m + 1 < n → a < start_at s (j + 1)) → last_up_to (entries_from s i n) a ≡ some (entry_at s j)
+    → (m + 1 < n → a < start_at s (j + 1)) → last_up_to (entries_from s i n) a ≡ Some (entry_at s j)
 unfolding entries_from last_up_to
 last s a m i zero j e h up below more = absurd (let z : m < 0 = h in omega arith)
 last s a zero i (suc n) j e h up below more = go n up more
@@ -84,7 +83,7 @@ last s a zero i (suc n) j e h up below more = go n up more
 
     go :
         (n : ℕ) → ascending (map (λ e. e.start) (entries_from s i (suc n))) ≡ true → (0 + 1 < suc n → a < start_at s (j + 1))
-        → last_up_to (entries_from s i (suc n)) a ≡ some (entry_at s j)
+        → last_up_to (entries_from s i (suc n)) a ≡ Some (entry_at s j)
     go zero up more = rw (same, le-leb (start_at s j) a below) refl
     go (suc n) up more =
         let w = both (ltb (start_at s i) (start_at s (i + 1))) (ascending (map (λ e. e.start) (entries_from s (i + 1) (suc n)))) up in
@@ -97,52 +96,52 @@ last s a (suc m) i (suc (suc n)) j e h up below more =
 
 -- what halving ends with: nothing where the first record starts above the RVA
 pub found_none :
-    (s : List ℕ) (a : ℕ) → ascending (starts s) ≡ true → (0 < length s / 8 → a < start_at s 0) → last_up_to (entries s) a ≡ none
+    (s : List ℕ) (a : ℕ) → ascending (starts s) ≡ true → (0 < length s / 8 → a < start_at s 0) → last_up_to (entries s) a ≡ None
 unfolding entries_from last_up_to
 found_none s a up more = go (length s / 8) up more
   where
     go :
-        (n : ℕ) → ascending (map (λ e. e.start) (entries_from s 0 n)) ≡ true → (0 < n → a < start_at s 0) → last_up_to (entries_from s 0 n) a ≡ none
+        (n : ℕ) → ascending (map (λ e. e.start) (entries_from s 0 n)) ≡ true → (0 < n → a < start_at s 0) → last_up_to (entries_from s 0 n) a ≡ None
     go zero up more = refl
     go (suc n) up more = above s a n 0 up (more (omega arith))
 
 -- and else the record that starts at or below it and whose successor does not
 pub found_some :
     (s : List ℕ) (a j : ℕ) → j < length s / 8 → ascending (starts s) ≡ true → start_at s j ≤ a
-    → (j + 1 < length s / 8 → a < start_at s (j + 1)) → last_up_to (entries s) a ≡ some (entry_at s j)
+    → (j + 1 < length s / 8 → a < start_at s (j + 1)) → last_up_to (entries s) a ≡ Some (entry_at s j)
 found_some s a j h up below more = last s a j 0 (length s / 8) j (omega arith) h up below more
 
 -- finding, by what its tests say: 1, 2, 3, and then the record or none
 module _ (image : ℕ) (s : List ℕ) (pc : ℕ) where
-  pub find-unfit : eqb (length s % 8) 0 ≡ false → find image s pc ≡ refuse UnfitInput
+  pub find-unfit : eqb (length s % 8) 0 ≡ false → find image s pc ≡ Err UnfitInput
   unfolding find
   find-unfit h = rw h refl
 
-  pub find-below : eqb (length s % 8) 0 ≡ true → even pc < image → find image s pc ≡ refuse PcBelowBase
+  pub find-below : eqb (length s % 8) 0 ≡ true → even pc < image → find image s pc ≡ Err PcBelowBase
   unfolding find
   find-below h b = rw (h, lt-leb image (even pc) b) refl
 
   pub find-unsorted :
-      eqb (length s % 8) 0 ≡ true → image ≤ even pc → ascending (starts s) ≡ false → find image s pc ≡ refuse StartsNotAscending
+      eqb (length s % 8) 0 ≡ true → image ≤ even pc → ascending (starts s) ≡ false → find image s pc ≡ Err StartsNotAscending
   unfolding find find_rva
   find-unsorted h b up = rw (h, le-leb image (even pc) b, up) refl
 
   pub find-sorted :
       eqb (length s % 8) 0 ≡ true → image ≤ even pc → ascending (starts s) ≡ true
-      → find image s pc ≡ ok (last_up_to (entries s) (even pc - image))
+      → find image s pc ≡ Ok (last_up_to (entries s) (even pc - image))
   unfolding find find_rva
   find-sorted h b up = rw (h, le-leb image (even pc) b, up) refl
 
 -- the same by an RVA
 module _ (s : List ℕ) (a : ℕ) where
-  pub rva-unfit : eqb (length s % 8) 0 ≡ false → find_rva s a ≡ refuse UnfitInput
+  pub rva-unfit : eqb (length s % 8) 0 ≡ false → find_rva s a ≡ Err UnfitInput
   unfolding find_rva
   rva-unfit h = rw h refl
 
-  pub rva-unsorted : eqb (length s % 8) 0 ≡ true → ascending (starts s) ≡ false → find_rva s a ≡ refuse StartsNotAscending
+  pub rva-unsorted : eqb (length s % 8) 0 ≡ true → ascending (starts s) ≡ false → find_rva s a ≡ Err StartsNotAscending
   unfolding find_rva
   rva-unsorted h up = rw (h, up) refl
 
-  pub rva-sorted : eqb (length s % 8) 0 ≡ true → ascending (starts s) ≡ true → find_rva s a ≡ ok (last_up_to (entries s) a)
+  pub rva-sorted : eqb (length s % 8) 0 ≡ true → ascending (starts s) ≡ true → find_rva s a ≡ Ok (last_up_to (entries s) a)
   unfolding find_rva
   rva-sorted h up = rw (h, up) refl

@@ -2,9 +2,8 @@
 #![tactic(auto)]
 
 ghost use Rattle.std.specs.Prelude.{◌≡◌, true, ◌/◌, ◌<◌, length};
-ghost use Rattle.words.specs.Answer.{ok, refuse};
 ghost use Rattle.unwinding.specs.View.{ascending as ascending_of};
-ghost use Rattle.pdata.specs.Pdata.{entries, entry_at, starts, last_up_to, find as find_of, find_rva as spec_find_rva, found, checked as checked_of};
+ghost use Rattle.pdata.specs.Pdata.{entries, entry_at, starts, last_up_to, find as find_of, find_rva as spec_find_rva, checked as checked_of};
 
 use words::Refusal;
 
@@ -14,14 +13,6 @@ pub struct Entry {
     pub number: usize,
     pub start: u32,
     pub word: u32,
-}
-
-// What finding gives (RULES 2.5).
-#[derive(Clone, Copy)]
-pub enum Found {
-    Record(Entry),
-    Nothing,
-    Refused(Refusal),
 }
 
 // What was found to hold of tables before a record is looked for: refusal 1 is not given for any part (here: for the .pdata's length), and
@@ -59,22 +50,20 @@ pub fn ascending(pdata: &[u8]) -> bool
     ensures { result ≡ ascending_of (starts pdata.now) }
 {
     let n = records(pdata);
-    let mut i = 0;
     let mut last = lent::word32(pdata, 0);
-    while i + 1 < n {
-        let next = lent::word32_in(pdata, 8 * (i + 1));
+    for i in 1..n {
+        let next = lent::word32_in(pdata, 8 * i);
         if next <= words::even(last) + 1 {
             return false;
         }
         last = next;
-        i += 1;
     }
     true
 }
 
 // The last record that starts at or below an RVA, by halving, in a table that ascends; words are compared as in `ascending`.
-fn search(pdata: &[u8], rva: u32) -> Found
-    ensures { ascending_of (starts pdata.now) ≡ true → result ≡ found (ok (last_up_to (entries pdata.now) rva)) }
+fn search(pdata: &[u8], rva: u32) -> Option<Entry>
+    ensures { ascending_of (starts pdata.now) ≡ true → result ≡ last_up_to (entries pdata.now) rva }
 {
     let top = words::even(rva) + 1;
     let mut low = 0;
@@ -88,9 +77,9 @@ fn search(pdata: &[u8], rva: u32) -> Found
         }
     }
     if low == 0 {
-        return Found::Nothing;
+        return None;
     }
-    Found::Record(entry_in(pdata, low - 1))
+    Some(entry_in(pdata, low - 1))
 }
 
 // What finding asks of the table alone: a walk asks it once.
@@ -103,47 +92,45 @@ pub fn check(pdata: &[u8]) -> Checked
     }
 }
 
-// A refused finding.
-fn refused(why: Refusal) -> Found
-    ensures { result ≡ found (refuse why) }
-{
-    Found::Refused(why)
-}
-
 // Finding in a table that was checked, as a walk does for each frame: the tests of RULES 9.55 in order, and then the record or none.
-pub fn find_in(checked: Checked, image: u32, pdata: &[u8], pc: u32) -> Found
-    ensures { checked ≡ checked_of pdata.now → result ≡ found (find_of image pdata.now pc) }
+pub fn find_in(
+    checked: Checked,
+    image: u32,
+    pdata: &[u8],
+    pc: u32,
+) -> Result<Option<Entry>, Refusal>
+    ensures { checked ≡ checked_of pdata.now → result ≡ find_of image pdata.now pc }
 {
     if !checked.fit {
-        return refused(Refusal::UnfitInput);
+        return Err(Refusal::UnfitInput);
     }
     let at = words::even(pc);
     if at < image {
-        return refused(Refusal::PcBelowBase);
+        return Err(Refusal::PcBelowBase);
     }
     if !checked.sorted {
-        return refused(Refusal::StartsNotAscending);
+        return Err(Refusal::StartsNotAscending);
     }
-    search(pdata, at - image)
+    Ok(search(pdata, at - image))
 }
 
 // Finding by an RVA: 1 for the length, 3, and then the last record that starts at or below it, or none.
-pub fn find_rva(pdata: &[u8], rva: u32) -> Found
-    ensures { result ≡ found (spec_find_rva pdata.now rva) }
+pub fn find_rva(pdata: &[u8], rva: u32) -> Result<Option<Entry>, Refusal>
+    ensures { result ≡ spec_find_rva pdata.now rva }
 {
     let c = check(pdata);
     if !c.fit {
-        return refused(Refusal::UnfitInput);
+        return Err(Refusal::UnfitInput);
     }
     if !c.sorted {
-        return refused(Refusal::StartsNotAscending);
+        return Err(Refusal::StartsNotAscending);
     }
-    search(pdata, rva)
+    Ok(search(pdata, rva))
 }
 
 // Finding by a pc (RULES 2.5).
-pub fn find(image: u32, pdata: &[u8], pc: u32) -> Found
-    ensures { result ≡ found (find_of image pdata.now pc) }
+pub fn find(image: u32, pdata: &[u8], pc: u32) -> Result<Option<Entry>, Refusal>
+    ensures { result ≡ find_of image pdata.now pc }
 {
     find_in(check(pdata), image, pdata, pc)
 }

@@ -1,57 +1,41 @@
 -- The answer for a record by what reading it came to.
 -- Assumes nothing.
-use Prim.Native.Nat.{ℕ, ◌+◌, ◌-◌}
-use mathlib.Core.Path.{◌≡◌, sym, ap, ◌∙◌}
+use Rattle.std.specs.Prelude.{Ok, Err, Option, None, Some}
+use Prim.Native.Nat.{ℕ}
+use mathlib.Core.Path.{◌≡◌, refl, sym, ap, ◌∙◌}
 use mathlib.Core.List.{List}
 use native.Mathlib.Omega.{arith}
 use Rattle.words.specs.declared.Refusal.{Refusal}
-use Rattle.words.specs.declared.Verdict.{Verdict}
-use Rattle.words.specs.declared.Verdict.TheVariants.{Given, Refused}
-use Rattle.words.specs.Answer.{verdict, ◌>>=◌}
+use Rattle.words.specs.Answer.{Res, verdict, maybe, ◌>>=◌}
 use Rattle.lent.specs.Lent.{lent}
 use Rattle.unwinding.specs.View.{view}
 use Rattle.codes.specs.Code.{size, codes_at}
-use Rattle.record.specs.Record.{shape_at}
-use Rattle.record.specs.AsCoded.Plan.{by_verdict, shape_by, picked, codes_in, read_of}
-use Rattle.record.proofs.Shapes.{read-shape}
-use Rattle.record.specs.declared.ReadOf.{ReadOf}
+use Rattle.record.specs.AsCoded.Plan.{shape_by, codes_in, read_of, read_shape}
+use Rattle.record.proofs.Shapes.{read-shape, read-given}
+use Rattle.record.specs.declared.Record.{Record}
 use Rattle.place.specs.Judged.{view_at}
-use Rattle.place.specs.AsCoded.Placed.{refused_of, in_plan, placed_by, placed_in}
+use Rattle.place.specs.AsCoded.Placed.{in_plan, placed_in}
 use Rattle.place.specs.declared.Placed.{Placed}
+use Rattle.place.specs.declared.AnyPlaced.{AnyPlaced}
 
--- the code bytes up to where they end
-pub picked-codes : (x : List ℕ) (f : ReadOf) → picked f.written f.bytes x f.codes.start (f.codes.start + f.codes.len - f.codes.start) ≡ codes_in x f
-picked-codes x f =
-    let n : f.codes.start + f.codes.len - f.codes.start ≡ f.codes.len = omega arith in
-    ap (picked f.written f.bytes x f.codes.start) n
-
-module _ (x : List ℕ) (f : ReadOf) (o : ℕ) (p : Placed) where
-  by :
-      (v : Verdict) → f.verdict ≡ v → p ≡ placed_by v f.plan (codes_in x f) x o
-      → record { at = p; written = f.written; codes = f.codes; bytes = f.bytes } ≡ placed_in x f o
-  by v e h =
-      ap (λ q. record { at = q; written = f.written; codes = f.codes; bytes = f.bytes }) (h ∙ ap (λ w. placed_by w f.plan (codes_in x f) x o) (sym e))
-
-  pub placed-refused :
-      (r : Refusal) → f.verdict ≡ Refused r → p ≡ refused_of r
-      → record { at = p; written = f.written; codes = f.codes; bytes = f.bytes } ≡ placed_in x f o
-  placed-refused r e h = by (Refused r) e h
-
-  pub placed-given :
-      f.verdict ≡ Given → (s : List ℕ) → s ≡ codes_in x f → p ≡ in_plan f.plan s x o
-      → record { at = p; written = f.written; codes = f.codes; bytes = f.bytes } ≡ placed_in x f o
-  placed-given e s q h = by Given e (h ∙ ap (λ s. in_plan f.plan s x o) q)
+-- the code bytes beside a place are its record's
+pub placed-codes :
+    (x : List ℕ) (r : Res Record) (o : ℕ) (q : AnyPlaced) → Ok (Some q) ≡ (r >>= λ f. placed_in x f o)
+    → (f : Record) × (r ≡ Ok f) × (q.codes ≡ f.codes)
+placed-codes x (Ok f) o q is = (f, refl, go (in_plan f.plan (codes_in f.codes x) x o) is)
+  where
+    go : (y : Res (Option Placed)) → Ok (Some q) ≡ (y >>= λ p. Ok (maybe p None (λ q. Some (record { at = q; codes = f.codes })))) → q.codes ≡ f.codes
+    go (Ok (Some p)) e = let w : q ≡ record { at = p; codes = f.codes } = cc in ap (λ q. q.codes) w
+    go (Ok None) e = absurd (let z : ◌≡◌ {A = ℕ} 0 1 = cc in omega arith)
+    go (Err r) e = absurd (let z : ◌≡◌ {A = ℕ} 0 1 = cc in omega arith)
+placed-codes x (Err r) o q is = absurd (let z : ◌≡◌ {A = ℕ} 0 1 = cc in omega arith)
 
 -- 4 to 7 by what reading the record came to
-module _ (b : ℕ) (x : List ℕ) (w : ℕ) (f : ReadOf) (is : f ≡ read_of (lent b x) w) where
-  shape : (v : Verdict) → f.verdict ≡ v → shape_at (lent b x) w ≡ by_verdict v (shape_by f.plan (codes_in x f) x)
-  shape v e = read-shape b x w f is ∙ ap (λ u. by_verdict u (shape_by f.plan (codes_in x f) x)) e
-
-  pub judged-refused : (r : Refusal) → f.verdict ≡ Refused r → f.verdict ≡ verdict (view_at (lent b x) w)
-  judged-refused r e = e ∙ sym (ap (λ s. verdict (s >>= view size codes_at)) (shape (Refused r) e))
+module _ (b : ℕ) (x : List ℕ) (w : ℕ) where
+  pub judged-refused : (r : Refusal) → read_of (lent b x) w ≡ Err r → Err r ≡ verdict (view_at (lent b x) w)
+  judged-refused r e = sym (ap (λ s. verdict (s >>= view size codes_at)) (read-shape b x w ∙ ap (read_shape x) e))
 
   pub judged-given :
-      f.verdict ≡ Given → (s : List ℕ) → s ≡ codes_in x f
-      → verdict (view size codes_at (shape_by f.plan s x)) ≡ verdict (view_at (lent b x) w)
-  judged-given e s q =
-      ap (λ s. verdict (view size codes_at (shape_by f.plan s x))) q ∙ sym (ap (λ s. verdict (s >>= view size codes_at)) (shape Given e))
+      (f : Record) → read_of (lent b x) w ≡ Ok f
+      → verdict (view size codes_at (shape_by f.plan (codes_in f.codes x) x)) ≡ verdict (view_at (lent b x) w)
+  judged-given f e = sym (ap (λ s. verdict (s >>= view size codes_at)) (read-given b x w f e))

@@ -1,5 +1,5 @@
 // The epilogues of a record in one pass: what refusals 6 and 7 ask of them, and the number of the one that an offset falls into.
-ghost use Rattle.std.specs.Prelude.{◌≡◌, ◌&&◌, ◌||◌, ◌+◌, ◌^◌, ◌≤◌, ◌<◌, leb, ltb, length, if◌then◌else◌};
+ghost use Rattle.std.specs.Prelude.{◌≡◌, ◌&&◌, ◌||◌, ◌+◌, ◌^◌, ◌≤◌, ◌<◌, leb, ltb, length, if◌then◌else◌, Ok, IfOk};
 ghost use Rattle.words.specs.Units.{code_bytes, halfwords, halfword_bytes as spec_halfword_bytes};
 ghost use Rattle.words.specs.Answer.{verdict};
 ghost use Rattle.unwinding.specs.View.{view};
@@ -8,13 +8,12 @@ ghost use Rattle.unwinding.specs.Shape.{start_of};
 ghost use Rattle.codes.specs.Code.{size, codes_at};
 ghost use Rattle.codes.specs.AsCoded.Rows.{row_numbers};
 ghost use Rattle.record.specs.AsCoded.Plan.{scopes_from, shape_by};
-ghost use Rattle.place.specs.AsCoded.Look.{Ready, measured, bytes_in, span_by, see as see_of, look_from, passed, judged as judged_of, unseen as unseen_of};
+ghost use Rattle.place.specs.AsCoded.Look.{Ready, measured, span_by, see as see_of, look_from, passed, unseen as unseen_of};
 
-use super::{EpilogueSpan, Looked, Measured, Passed, Seen};
-use reader::Scanned;
+use super::{EpilogueSpan, Passed, Seen};
 use record::Plan;
 use unwinding::{Scope, Start};
-use words::{CodeBytes, Halfwords, Refusal, Verdict};
+use words::{CodeBytes, Halfwords, Refusal};
 
 // Where an epilogue of this size starts in a function of this length (RULES 5.4).
 fn start_of(start: Start, span: u64, size: u64) -> u64
@@ -36,14 +35,12 @@ pub fn bytes_of(count: u64) -> u64
 }
 
 // The size of the code list at an index.
-pub fn measure(t: &[u8; 256], codes: &[u8], index: CodeBytes) -> Measured
+pub fn measure(t: &[u8; 256], codes: &[u8], index: CodeBytes) -> Result<u64, Refusal>
     requires { (t.now ≡ row_numbers) × (length codes.now ≤ 1020) }
-    ensures { (result ≡ measured (codes_at codes.now index)) × (bytes_in result < 8192) }
+    ensures { (result ≡ measured (codes_at codes.now index)) × IfOk result (λ n. n < 8192) }
 {
-    match reader::scan(t, codes, index) {
-        Scanned::Ends(list, end) => Measured::Bytes(bytes_of(list + end)),
-        Scanned::Refused(r) => Measured::Unread(r),
-    }
+    let found = reader::scan(t, codes, index)?;
+    Ok(bytes_of(found.list + found.end))
 }
 
 // The same where the size of the list at another index is known: epilogues often share their codes.
@@ -53,12 +50,12 @@ fn measure_after(
     index: CodeBytes,
     at: CodeBytes,
     size: u64,
-) -> Measured
-    requires { (t.now ≡ row_numbers) × (length codes.now ≤ 1020) × (Measured.Bytes size ≡ measured (codes_at codes.now at)) × (size < 8192) }
-    ensures { (result ≡ measured (codes_at codes.now index)) × (bytes_in result < 8192) }
+) -> Result<u64, Refusal>
+    requires { (t.now ≡ row_numbers) × (length codes.now ≤ 1020) × (measured (codes_at codes.now at) ≡ Ok size) × (size < 8192) }
+    ensures { (result ≡ measured (codes_at codes.now index)) × IfOk result (λ n. n < 8192) }
 {
     if index.0 == at.0 {
-        return Measured::Bytes(size);
+        return Ok(size);
     }
     measure(t, codes, index)
 }
@@ -138,8 +135,8 @@ fn look(
     o: u64,
     seen: Seen,
     first: u64,
-) -> Looked
-    requires { Ready t.now codes.now plan xdata.now × (Measured.Bytes first ≡ measured (codes_at codes.now (code_bytes 0))) × (first < 8192) }
+) -> Result<Seen, Refusal>
+    requires { Ready t.now codes.now plan xdata.now × (measured (codes_at codes.now (code_bytes 0)) ≡ Ok first) × (first < 8192) }
     ensures { result ≡ look_from codes.now plan.span o 0 seen (scopes_from plan.scopes xdata.now 0 plan.count) }
 {
     let span = span_of(plan);
@@ -147,24 +144,14 @@ fn look(
     let mut s = seen;
     let mut size = first;
     let mut at = CodeBytes(0);
-    let mut k: usize = 0;
-    while k < n {
+    for k in 0..n {
         let e = record::scope(plan, xdata, k);
         let index = e.index;
-        let read = measure_after(t, codes, index, at, size);
-        match read {
-            Measured::Bytes(bytes) => {
-                size = bytes;
-            }
-            Measured::Unread(r) => {
-                return Looked::Bad(r);
-            }
-        }
+        size = measure_after(t, codes, index, at, size)?;
         at = index;
         s = see(span, o, k, s, epilogue_span(e, span, size));
-        k += 1;
     }
-    Looked::All(s)
+    Ok(s)
 }
 
 // Before any epilogue, of n: the prologue is what must not be shared.
@@ -187,50 +174,34 @@ fn prologue_of(fragment: bool, list: u64) -> u64
     if fragment { 0 } else { bytes_of(list) }
 }
 
-// 6 and 7, by what the pass came to.
-fn judged(looked: Looked) -> Verdict
-    ensures { result ≡ judged_of looked }
-{
-    match looked {
-        Looked::Bad(r) => Verdict::Refused(r),
-        Looked::All(seen) => {
-            if seen.fits {
-                Verdict::Given
-            } else {
-                Verdict::Refused(Refusal::BadLayout)
-            }
-        }
-    }
-}
-
 // The prologue and the epilogues of a record. The code list at index 0 is scanned once for both.
-pub fn pass(t: &[u8; 256], codes: &[u8], plan: Plan, xdata: &[u8], o: u64) -> Passed
+pub fn pass(
+    t: &[u8; 256],
+    codes: &[u8],
+    plan: Plan,
+    xdata: &[u8],
+    o: u64,
+) -> Result<Passed, Refusal>
     requires { Ready t.now codes.now plan xdata.now }
     ensures { result ≡ passed codes.now plan.span plan.fragment (scopes_from plan.scopes xdata.now 0 plan.count) o }
 {
-    match reader::scan(t, codes, CodeBytes(0)) {
-        Scanned::Ends(list, end) => {
-            let p = prologue_of(plan.fragment, list);
-            let seen = unseen(span_of(plan), p, plan.count);
-            let looked = look(t, codes, plan, xdata, o, seen, bytes_of(list + end));
-            Passed {
-                prologue: p,
-                looked,
-            }
-        }
-        Scanned::Refused(r) => Passed {
-            prologue: 0,
-            looked: Looked::Bad(r),
-        },
-    }
+    let found = reader::scan(t, codes, CodeBytes(0))?;
+    let p = prologue_of(plan.fragment, found.list);
+    let first = bytes_of(found.list + found.end);
+    let none = unseen(span_of(plan), p, plan.count);
+    let seen = look(t, codes, plan, xdata, o, none, first)?;
+    Ok(Passed { prologue: p, seen })
 }
 
 // 6 and 7 for a record's plan and code bytes. They are the same for each offset of the pass.
-pub fn judge(t: &[u8; 256], codes: &[u8], plan: Plan, xdata: &[u8]) -> Verdict
+pub fn judge(t: &[u8; 256], codes: &[u8], plan: Plan, xdata: &[u8]) -> Result<(), Refusal>
     requires { Ready t.now codes.now plan xdata.now }
     ensures { result ≡ verdict (view size codes_at (shape_by plan codes.now xdata.now)) }
 {
-    let q = pass(t, codes, plan, xdata, 0);
-    let looked = q.looked;
-    judged(looked)
+    let q = pass(t, codes, plan, xdata, 0)?;
+    if q.seen.fits {
+        Ok(())
+    } else {
+        Err(Refusal::BadLayout)
+    }
 }

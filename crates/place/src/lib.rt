@@ -8,17 +8,16 @@ ghost use Rattle.std.specs.Prelude.{◌≡◌, ◌-◌, ◌^◌, ◌≤◌, ◌<
 ghost use Rattle.words.specs.Units.{code_bytes};
 ghost use Rattle.reader.specs.AsCoded.Skip.{skip_at};
 ghost use Rattle.record.specs.AsCoded.Plan.{scopes_from};
-ghost use Rattle.place.specs.AsCoded.Look.{Ready, by_skip, in_epilogue as spec_in_epilogue, in_scope as spec_in_scope, in_here as spec_in_here, in_seen as spec_in_seen, spot_of, no_spot as no_spot_of};
+ghost use Rattle.place.specs.AsCoded.Look.{Ready, by_skip, in_epilogue as spec_in_epilogue, in_scope as spec_in_scope, in_here as spec_in_here, in_seen as spec_in_seen, spot_of};
 ghost use Rattle.lent.specs.Lent.{lent};
 ghost use Rattle.words.specs.Answer.{verdict};
 ghost use Rattle.place.specs.Judged.{view_at};
 ghost use Rattle.codes.specs.AsCoded.Rows.{row_numbers};
-ghost use Rattle.place.specs.AsCoded.Placed.{refused_of, in_plan as spec_in_plan, any_placed};
+ghost use Rattle.place.specs.AsCoded.Placed.{in_plan as spec_in_plan, any_placed};
 
-use reader::Skipped;
-use record::{Part, Plan};
+use record::{Codes, Plan};
 use unwinding::Scope;
-use words::{CodeBytes, Place, Refusal, Verdict};
+use words::{CodeBytes, Place, Refusal};
 
 // An epilogue as its codes make it: it takes the bytes from start up to start + size.
 #[derive(Clone, Copy)]
@@ -27,13 +26,6 @@ pub struct EpilogueSpan {
     pub size: u64,
     pub condition: u32,
     pub index: CodeBytes,
-}
-
-// The bytes of the instructions of a code list, its end code's with them, or 6.
-#[derive(Clone, Copy)]
-pub enum Measured {
-    Bytes(u64),
-    Unread(Refusal),
 }
 
 // Of the epilogues seen so far: below which offset no later one may start, where the last that is not empty ends, whether 7 is not given,
@@ -46,56 +38,34 @@ pub struct Seen {
     pub at: usize,
 }
 
-// What a pass over the epilogues came to.
-#[derive(Clone, Copy)]
-pub enum Looked {
-    All(Seen),
-    Bad(Refusal),
-}
-
-// The bytes of a record's prologue, and what a pass over its epilogues came to.
+// The bytes of a record's prologue, and what a pass over its epilogues saw.
 #[derive(Clone, Copy)]
 pub struct Passed {
     pub prologue: u64,
-    pub looked: Looked,
+    pub seen: Seen,
 }
 
 // A place, and the index of the first code that runs there.
 #[derive(Clone, Copy)]
 pub struct Spot {
-    pub verdict: Verdict,
     pub place: Place,
     pub index: CodeBytes,
 }
 
-// Where an offset stands in a record that was read: refused, not covered by its function, or at a place with the index of the first code
-// that runs there. The handler's RVA is 0 if there is none.
+// Where an offset stands in a record whose function covers it: a place, and the index of the first code that runs there. The handler's
+// RVA is 0 if there is none.
 #[derive(Clone, Copy)]
 pub struct Placed {
-    pub verdict: Verdict,
-    pub covers: bool,
     pub place: Place,
     pub index: CodeBytes,
     pub handler: u32,
 }
 
-// The same with the record's code bytes: sixteen that were written, or a part of the .xdata.
+// The same with the record's code bytes.
 #[derive(Clone, Copy)]
 pub struct AnyPlaced {
     pub at: Placed,
-    pub written: bool,
-    pub codes: Part,
-    pub bytes: [u8; 16],
-}
-
-fn no_spot(r: Refusal) -> Spot
-    ensures { result ≡ no_spot_of r }
-{
-    Spot {
-        verdict: Verdict::Refused(r),
-        place: Place::Leaf,
-        index: CodeBytes(0),
-    }
+    pub codes: Codes,
 }
 
 // How far an offset is past another; 0 where it is not.
@@ -106,54 +76,57 @@ fn past(o: u64, from: u64) -> u64
 }
 
 // In the prologue: skips the codes whose instructions have still to run (RULES 5.8).
-fn in_prologue(t: &[u8; 256], codes: &[u8], k: u64) -> Spot
+fn in_prologue(t: &[u8; 256], codes: &[u8], k: u64) -> Result<Spot, Refusal>
     requires { t.now ≡ row_numbers }
     ensures { result ≡ by_skip Place.Prologue (skip_at codes.now (code_bytes 0) k) }
 {
     match reader::skip(t, codes, CodeBytes(0), k) {
-        Skipped::At(index) => Spot {
-            verdict: Verdict::Given,
+        Some(index) => Ok(Spot {
             place: Place::Prologue,
-            index: index,
-        },
-        Skipped::Nowhere => no_spot(Refusal::InsideInstruction),
+            index,
+        }),
+        None => Err(Refusal::InsideInstruction),
     }
 }
 
 // In an epilogue: skips the codes whose instructions have run (RULES 5.9); 9 before 10.
-fn in_epilogue(t: &[u8; 256], codes: &[u8], o: u64, w: EpilogueSpan) -> Spot
+fn in_epilogue(t: &[u8; 256], codes: &[u8], o: u64, w: EpilogueSpan) -> Result<Spot, Refusal>
     requires { t.now ≡ row_numbers }
     ensures { result ≡ spec_in_epilogue codes.now o w }
 {
     match reader::skip(t, codes, w.index, past(o, w.start)) {
-        Skipped::At(index) => {
+        Some(index) => {
             if w.condition == 14 {
-                Spot {
-                    verdict: Verdict::Given,
+                Ok(Spot {
                     place: Place::Epilogue,
-                    index: index,
-                }
+                    index,
+                })
             } else {
-                no_spot(Refusal::Conditional)
+                Err(Refusal::Conditional)
             }
         }
-        Skipped::Nowhere => no_spot(Refusal::InsideInstruction),
+        None => Err(Refusal::InsideInstruction),
     }
 }
 
 // In the epilogue of a scope, whose codes are read again: the pass over the epilogues keeps only its number.
-fn in_scope(t: &[u8; 256], codes: &[u8], span: u64, o: u64, e: Scope) -> Spot
+fn in_scope(t: &[u8; 256], codes: &[u8], span: u64, o: u64, e: Scope) -> Result<Spot, Refusal>
     requires { (t.now ≡ row_numbers) × (length codes.now ≤ 1020) × (span < 2 ^ 32) }
     ensures { result ≡ spec_in_scope codes.now span o e }
 {
-    match layout::measure(t, codes, e.index) {
-        Measured::Bytes(size) => in_epilogue(t, codes, o, layout::epilogue_span(e, span, size)),
-        Measured::Unread(r) => no_spot(r),
-    }
+    let size = layout::measure(t, codes, e.index)?;
+    in_epilogue(t, codes, o, layout::epilogue_span(e, span, size))
 }
 
 // In the epilogue of a number, or, where none has it, in the body.
-fn in_here(t: &[u8; 256], codes: &[u8], plan: Plan, xdata: &[u8], o: u64, at: usize) -> Spot
+fn in_here(
+    t: &[u8; 256],
+    codes: &[u8],
+    plan: Plan,
+    xdata: &[u8],
+    o: u64,
+    at: usize,
+) -> Result<Spot, Refusal>
     requires { Ready t.now codes.now plan xdata.now }
     ensures { result ≡ spec_in_here codes.now plan.span (scopes_from plan.scopes xdata.now 0 plan.count) o at }
 {
@@ -161,11 +134,10 @@ fn in_here(t: &[u8; 256], codes: &[u8], plan: Plan, xdata: &[u8], o: u64, at: us
         let e = record::scope(plan, xdata, at);
         return in_scope(t, codes, layout::span_of(plan), o, e);
     }
-    Spot {
-        verdict: Verdict::Given,
+    Ok(Spot {
         place: Place::Body,
         index: CodeBytes(0),
-    }
+    })
 }
 
 // 7, and then the place (RULES 5.6).
@@ -174,130 +146,79 @@ fn in_seen(
     codes: &[u8],
     plan: Plan,
     xdata: &[u8],
-    p: u64,
     o: u64,
-    looked: Looked,
-) -> Spot
+    q: Passed,
+) -> Result<Spot, Refusal>
     requires { Ready t.now codes.now plan xdata.now }
-    ensures { result ≡ spec_in_seen codes.now plan.span (scopes_from plan.scopes xdata.now 0 plan.count) p o looked }
+    ensures { result ≡ spec_in_seen codes.now plan.span (scopes_from plan.scopes xdata.now 0 plan.count) o q }
 {
-    match looked {
-        Looked::Bad(r) => no_spot(r),
-        Looked::All(seen) => {
-            if seen.fits {
-                if o < p {
-                    return in_prologue(t, codes, p - o);
-                }
-                return in_here(t, codes, plan, xdata, o, seen.at);
-            }
-            no_spot(Refusal::BadLayout)
-        }
+    let seen = q.seen;
+    if !seen.fits {
+        return Err(Refusal::BadLayout);
     }
+    if o < q.prologue {
+        return in_prologue(t, codes, q.prologue - o);
+    }
+    in_here(t, codes, plan, xdata, o, seen.at)
 }
 
 // The place of an offset in a record, and the index of the first code that runs there.
-fn spot_in(t: &[u8; 256], codes: &[u8], plan: Plan, xdata: &[u8], o: u64) -> Spot
+fn spot_in(t: &[u8; 256], codes: &[u8], plan: Plan, xdata: &[u8], o: u64) -> Result<Spot, Refusal>
     requires { Ready t.now codes.now plan xdata.now }
     ensures { result ≡ spot_of codes.now plan.span plan.fragment (scopes_from plan.scopes xdata.now 0 plan.count) o }
 {
-    let q = layout::pass(t, codes, plan, xdata, o);
-    let looked = q.looked;
-    in_seen(t, codes, plan, xdata, q.prologue, o, looked)
+    let q = layout::pass(t, codes, plan, xdata, o)?;
+    in_seen(t, codes, plan, xdata, o, q)
 }
 
-// A refused record.
-fn refused(why: Refusal) -> Placed
-    ensures { result ≡ refused_of why }
-{
-    Placed {
-        verdict: Verdict::Refused(why),
-        covers: false,
-        place: Place::Leaf,
-        index: CodeBytes(0),
-        handler: 0,
-    }
-}
-
-// By a record's plan, whose scope words are in the .xdata, and code bytes, at an offset that its function covers or not.
-fn in_plan(t: &[u8; 256], codes: &[u8], plan: Plan, xdata: &[u8], o: u64) -> Placed
+// By a record's plan, whose scope words are in the .xdata, and code bytes; none where its function does not cover the offset.
+fn in_plan(
+    t: &[u8; 256],
+    codes: &[u8],
+    plan: Plan,
+    xdata: &[u8],
+    o: u64,
+) -> Result<Option<Placed>, Refusal>
     requires { Ready t.now codes.now plan xdata.now }
     ensures { result ≡ spec_in_plan plan codes.now xdata.now o }
 {
     if o < plan.span as u64 {
-        let s = spot_in(t, codes, plan, xdata, o);
-        let verdict = s.verdict;
-        let place = s.place;
-        let index = s.index;
-        return Placed {
-            verdict,
-            covers: true,
-            place,
-            index,
+        let s = spot_in(t, codes, plan, xdata, o)?;
+        return Ok(Some(Placed {
+            place: s.place,
+            index: s.index,
             handler: plan.handler,
-        };
+        }));
     }
-    Placed {
-        verdict: Verdict::Given,
-        covers: false,
-        place: Place::Leaf,
-        index: CodeBytes(0),
-        handler: 0,
-    }
+    Ok(None)
 }
 
-// Where an offset stands in the record that word 1 of a .pdata record names. The table of codes is lent.
-pub fn at(t: &[u8; 256], rva: u32, xdata: &[u8], word: u32, o: u64) -> AnyPlaced
+// Where an offset stands in the record that word 1 of a .pdata record names; none where its function does not cover the offset. The table
+// of codes is lent.
+pub fn at(
+    t: &[u8; 256],
+    rva: u32,
+    xdata: &[u8],
+    word: u32,
+    o: u64,
+) -> Result<Option<AnyPlaced>, Refusal>
     requires { t.now ≡ row_numbers }
     ensures { result ≡ any_placed (lent rva xdata.now) word o }
 {
-    let f = record::read(rva, xdata, word);
-    let bytes = f.bytes;
+    let f = record::read(rva, xdata, word)?;
     let codes = f.codes;
-    let written = f.written;
-    let verdict = f.verdict;
-    match verdict {
-        Verdict::Refused(why) => {
-            let at = refused(why);
-            AnyPlaced {
-                at,
-                written,
-                codes,
-                bytes,
-            }
-        }
-        Verdict::Given => {
-            let plan = f.plan;
-            let start = codes.start;
-            let end = start + codes.len;
-            let list = record::pick(written, &bytes, xdata, start, end);
-            let at = in_plan(t, list, plan, xdata, o);
-            AnyPlaced {
-                at,
-                written,
-                codes,
-                bytes,
-            }
-        }
+    match in_plan(t, codes.of(xdata), f.plan, xdata, o)? {
+        Some(at) => Ok(Some(AnyPlaced { at, codes })),
+        None => Ok(None),
     }
 }
 
 // 4 to 7 for word 1 of a .pdata record, without a pc.
-pub fn judge(rva: u32, xdata: &[u8], word: u32) -> Verdict
+pub fn judge(rva: u32, xdata: &[u8], word: u32) -> Result<(), Refusal>
     ensures { result ≡ verdict (view_at (lent rva xdata.now) word) }
 {
-    let f = record::read(rva, xdata, word);
-    let verdict = f.verdict;
-    match verdict {
-        Verdict::Refused(_) => verdict,
-        Verdict::Given => {
-            let t = codes::row_table();
-            let bytes = f.bytes;
-            let codes = f.codes;
-            let plan = f.plan;
-            let start = codes.start;
-            let end = start + codes.len;
-            let list = record::pick(f.written, &bytes, xdata, start, end);
-            layout::judge(&t, list, plan, xdata)
-        }
-    }
+    let f = record::read(rva, xdata, word)?;
+    let t = codes::row_table();
+    let codes = f.codes;
+    layout::judge(&t, codes.of(xdata), f.plan, xdata)
 }

@@ -3,7 +3,7 @@
 // of what is written, no contract can say; what the text of a report is, `make` says.
 #![tactic(auto)]
 
-ghost use Rattle.std.specs.Prelude.{◌≡◌, ◌≤◌, length};
+ghost use Rattle.std.specs.Prelude.{ℕ, ◌≡◌, ◌≤◌, length};
 ghost use Rattle.text.specs.Overlay.{overlay};
 ghost use Rattle.programs.specs.Texts.{text_of};
 ghost use Rattle.std.specs.Counts.{IsPrefixLen};
@@ -20,6 +20,22 @@ pub enum Input {
     Report(usize),
     Cut,
     End,
+}
+
+// What a program makes of a report, or of a file: its answer, written.
+pub trait Answering {
+    // The bytes that it asks of the buffer.
+    ghost room: { ℕ };
+
+    // Writes the answer; whether all was taken. The buffer is lent, so that it is not cleared for each.
+    fn answer<W: Write, E: Write>(
+        &self,
+        output: &mut W,
+        errors: &mut E,
+        file: &[u8],
+        out: &mut [u8],
+    ) -> bool
+        requires { room ≤ length out.old };
 }
 
 // Which text: the listing of the walk, or the caller of the one frame.
@@ -56,35 +72,33 @@ pub fn put<W: Write, E: Write>(output: &mut W, errors: &mut E, bytes: &[u8]) -> 
     false
 }
 
-// Writes the text of a report. The buffer is lent, so that it is not cleared for each.
-fn answer<W: Write, E: Write>(
-    output: &mut W,
-    errors: &mut E,
-    text: Text,
-    file: &[u8],
-    out: &mut [u8],
-) -> bool
-    requires { 8192 ≤ length out.old }
-{
-    let n = make(text, file, out);
-    put(output, errors, &out[..n])
+// The text is made whole before it is written.
+impl Answering for Text {
+    ghost room = { 8192 };
+
+    fn answer<W: Write, E: Write>(
+        &self,
+        output: &mut W,
+        errors: &mut E,
+        file: &[u8],
+        out: &mut [u8],
+    ) -> bool {
+        let n = make(*self, file, out);
+        put(output, errors, &out[..n])
+    }
 }
 
-// The same with an empty line after it.
-fn answer_line<W: Write, E: Write>(
+// Writes the answer and an empty line after it.
+fn answer_line<A: Answering, W: Write, E: Write>(
+    to: &A,
     output: &mut W,
     errors: &mut E,
-    text: Text,
     file: &[u8],
     out: &mut [u8],
 ) -> bool
-    requires { 8192 ≤ length out.old }
+    requires { A.room ≤ length out.old }
 {
-    if answer(output, errors, text, file, out) {
-        put(output, errors, b"\n")
-    } else {
-        false
-    }
+    to.answer(output, errors, file, out) && put(output, errors, b"\n")
 }
 
 // The next report. One that is too long is none of its bytes: what is no whole report is unfit, and so is that of no bytes.
@@ -120,27 +134,60 @@ pub fn take_all<R: Read, E: Write>(input: &mut R, errors: &mut E, file: &mut [u8
 }
 
 // Answers the next report, and says whether to go on.
-fn answer_next<R: Read, W: Write, E: Write>(
+fn answer_next<A: Answering, R: Read, W: Write, E: Write>(
+    to: &A,
     input: &mut R,
     output: &mut W,
     errors: &mut E,
-    text: Text,
     file: &mut [u8],
     out: &mut [u8],
 ) -> bool
-    requires { 8192 ≤ length out.old }
+    requires { A.room ≤ length out.old }
 {
     match take(input, errors, file) {
-        Input::Report(n) => answer_line(output, errors, text, &file[..n], out),
+        Input::Report(n) => answer_line(to, output, errors, &file[..n], out),
         Input::Cut => {
-            answer_line(output, errors, text, b"", out);
+            answer_line(to, output, errors, b"", out);
             false
         }
         Input::End => false,
     }
 }
 
-// One report, up to the input's end. One byte more than the largest is asked for, so that a longer one is seen to be longer.
+// One report, up to the input's end. Its buffer has room for one byte more than the largest, so that a longer one is seen to be longer.
+pub fn run_one<A: Answering, R: Read, W: Write, E: Write>(
+    to: &A,
+    input: &mut R,
+    output: &mut W,
+    errors: &mut E,
+    file: &mut [u8],
+    out: &mut [u8],
+)
+    requires { A.room ≤ length out.old }
+{
+    let n = take_all(input, errors, file);
+    to.answer(output, errors, &file[..n], out);
+}
+
+// Reports one after the other. A proved loop has to end, and nothing says that the input does: it counts turns that no run uses up.
+pub fn run_many<A: Answering, R: Read, W: Write, E: Write>(
+    to: &A,
+    input: &mut R,
+    output: &mut W,
+    errors: &mut E,
+    file: &mut [u8],
+    out: &mut [u8],
+)
+    requires { A.room ≤ length out.old }
+{
+    for _ in 0..u64::MAX {
+        if !answer_next(to, input, output, errors, file, out) {
+            return;
+        }
+    }
+}
+
+// The text of one report, and of reports one after the other.
 pub fn answer_one<R: Read, W: Write, E: Write>(
     input: &mut R,
     output: &mut W,
@@ -149,11 +196,9 @@ pub fn answer_one<R: Read, W: Write, E: Write>(
 ) {
     let mut out = [0u8; 8192];
     let mut file = [0u8; 65537];
-    let n = take_all(input, errors, &mut file);
-    answer(output, errors, text, &file[..n], &mut out);
+    run_one(&text, input, output, errors, &mut file, &mut out);
 }
 
-// Reports one after the other. A proved loop has to end, and nothing says that the input does: it counts turns that no run uses up.
 pub fn answer_many<R: Read, W: Write, E: Write>(
     input: &mut R,
     output: &mut W,
@@ -162,8 +207,5 @@ pub fn answer_many<R: Read, W: Write, E: Write>(
 ) {
     let mut out = [0u8; 8192];
     let mut file = [0u8; 65536];
-    let mut turns = u64::MAX;
-    while 0 < turns && answer_next(input, output, errors, text, &mut file, &mut out) {
-        turns -= 1;
-    }
+    run_many(&text, input, output, errors, &mut file, &mut out);
 }

@@ -1,6 +1,7 @@
 -- Sizes of instructions: each code of a list has at most two halfwords and takes a byte at least, so a list's halfwords are no more than
 -- twice its bytes.
 -- Assumes nothing.
+use Rattle.std.specs.Prelude.{Ok, Err}
 use Prim.Native.Nat.{ℕ, ◌+◌, ◌-◌, ◌*◌, ◌/◌, ◌≤◌, ◌<◌}
 use mathlib.Core.Path.{◌≡◌, refl, sym, ap, ◌∙◌}
 use mathlib.Core.List.{List, [], ◌∷◌}
@@ -10,7 +11,7 @@ use native.Mathlib.Omega.{arith}
 use native.Mathlib.Nat.{mul-div_cancel_left}
 use Rattle.words.specs.declared.CodeBytes.{CodeBytes}
 use Rattle.words.specs.declared.Refusal.{Refusal}
-use Rattle.words.specs.Answer.{Res, ok, refuse, ◌>>=◌}
+use Rattle.words.specs.Answer.{Res, ◌>>=◌}
 use Rattle.unwinding.specs.CodeList.{Codes, total}
 use Rattle.unwinding.specs.Taking.{Scan}
 use Rattle.unwinding.proofs.All.{Sized}
@@ -19,11 +20,11 @@ use Rattle.unwinding.proofs.Scanning.{take_next, by-scan, codes_all}
 use Rattle.codes.specs.Code.{size, scan, codes_at, halves}
 use Rattle.reader.specs.AsCoded.Reading.{scanned}
 use Rattle.codes.specs.declared.Code.{Code}
-use Rattle.reader.specs.declared.Scanned.TheVariants.{Ends, Refused}
+use Rattle.reader.specs.declared.Ends.{Ends}
 use Rattle.codes.proofs.Scanning.{takes, take-size, take_last}
 
 -- each code of a list has an instruction
-pub codes-sized : (s : List ℕ) (i : CodeBytes) (c : Codes Code) → codes_at s i ≡ ok c → Sized size c.list
+pub codes-sized : (s : List ℕ) (i : CodeBytes) (c : Codes Code) → codes_at s i ≡ Ok c → Sized size c.list
 codes-sized s = codes_all takes (λ c. 0 < size c) s (λ j c next e. omega (arith, (take-size s j e).0))
 
 -- sizes in bytes are twice those in halfwords
@@ -32,13 +33,13 @@ total-bytes [] = omega (arith, total-empty size, total-empty halves)
 total-bytes (c ∷ cs) = omega (arith, total-step size c cs, total-step halves c cs, total-bytes cs)
 
 -- what a pass finds, said of the list in bytes
-pub record Measured (s : List ℕ) (i : CodeBytes) (h e : ℕ) : Type 0 where
-  pub list-bytes : total size (scan s i).list ≡ 2 * h
-  pub end-bytes : (scan s i).ending ≡ ok (2 * e)
-  pub few : h + e ≤ 2 * (length s - i.0)
+pub record Measured (s : List ℕ) (i : CodeBytes) (f : Ends) : Type 0 where
+  pub list-bytes : total size (scan s i).list ≡ 2 * f.list
+  pub end-bytes : (scan s i).ending ≡ Ok (2 * f.end)
+  pub few : f.list + f.end ≤ 2 * (length s - i.0)
 
 abbrev Within : List ℕ → ℕ → Scan Code → Type 0
-Within s j x = (n : ℕ) → x.ending ≡ ok n → (n ≡ 2 * (n / 2)) × (total halves x.list + n / 2 ≤ 2 * (length s - j))
+Within s j x = (n : ℕ) → x.ending ≡ Ok n → (n ≡ 2 * (n / 2)) × (total halves x.list + n / 2 ≤ 2 * (length s - j))
 
 within : (s : List ℕ) (i : CodeBytes) → Within s i.0 (scan s i)
 within s i =
@@ -55,32 +56,30 @@ within s i =
     (λ j k e n q. absurd (let z : ◌≡◌ {A = ℕ} 0 1 = cc in omega arith))
     i
 
-pub scanned-ends : (s : List ℕ) (i : CodeBytes) (h e : ℕ) → scanned (scan s i) ≡ Ends h e → Measured s i h e
-scanned-ends s i h e q = go (scan s i).ending refl q
+pub scanned-ends : (s : List ℕ) (i : CodeBytes) (f : Ends) → scanned (scan s i) ≡ Ok f → Measured s i f
+scanned-ends s i f q = go (scan s i).ending refl q
   where
-    go : (x : Res ℕ) → (scan s i).ending ≡ x → scanned (record { list = (scan s i).list; ending = x }) ≡ Ends h e → Measured s i h e
-    go (ok n) p r =
-        let a : total halves (scan s i).list ≡ h = cc in
-        let b : n / 2 ≡ e = cc in
+    go : (x : Res ℕ) → (scan s i).ending ≡ x → scanned (record { list = (scan s i).list; ending = x }) ≡ Ok f → Measured s i f
+    go (Ok n) p r =
+        let a : record { list = total halves (scan s i).list; end = n / 2 } ≡ f = cc in
         let w = within s i n p in
         record {
-          list-bytes = total-bytes (scan s i).list ∙ ap (λ x. 2 * x) a;
-          end-bytes = p ∙ ap ok (w.0 ∙ ap (λ x. 2 * x) b);
-          few = omega (arith, w.1);
+          list-bytes = total-bytes (scan s i).list ∙ ap (λ x. 2 * x.list) a;
+          end-bytes = p ∙ ap Ok (w.0 ∙ ap (λ x. 2 * x.end) a);
+          few = omega (arith, w.1, ap (λ x. x.list) a, ap (λ x. x.end) a);
         }
-    go (refuse r) p t = absurd (let z : ◌≡◌ {A = ℕ} 0 1 = cc in omega arith)
+    go (Err r) p t = absurd (let z : ◌≡◌ {A = ℕ} 0 1 = cc in omega arith)
 
-pub scanned-refused : (s : List ℕ) (i : CodeBytes) (r : Refusal) → scanned (scan s i) ≡ Refused r → (scan s i).ending ≡ refuse r
+pub scanned-refused : (s : List ℕ) (i : CodeBytes) (r : Refusal) → scanned (scan s i) ≡ Err r → (scan s i).ending ≡ Err r
 scanned-refused s i r q = go (scan s i).ending refl q
   where
-    go : (x : Res ℕ) → (scan s i).ending ≡ x → scanned (record { list = (scan s i).list; ending = x }) ≡ Refused r → (scan s i).ending ≡ refuse r
-    go (ok n) p t = absurd (let z : ◌≡◌ {A = ℕ} 0 1 = cc in omega arith)
-    go (refuse y) p t = let z : y ≡ r = cc in p ∙ ap refuse z
+    go : (x : Res ℕ) → (scan s i).ending ≡ x → scanned (record { list = (scan s i).list; ending = x }) ≡ Err r → (scan s i).ending ≡ Err r
+    go (Ok n) p t = absurd (let z : ◌≡◌ {A = ℕ} 0 1 = cc in omega arith)
+    go (Err y) p t = let z : y ≡ r = cc in p ∙ ap Err z
 
 -- so a pass finds what the code list at an index is
-pub codes-end :
-    (s : List ℕ) (i : CodeBytes) (h e : ℕ) → scanned (scan s i) ≡ Ends h e → codes_at s i ≡ ok (record { list = (scan s i).list; end_size = 2 * e })
-codes-end s i h e q = ap (λ x. x >>= λ n. ok (record { list = (scan s i).list; end_size = n })) (scanned-ends s i h e q).end-bytes
+pub codes-end : (s : List ℕ) (i : CodeBytes) (f : Ends) → scanned (scan s i) ≡ Ok f → codes_at s i ≡ Ok (record { list = (scan s i).list; end_size = 2 * f.end })
+codes-end s i f q = ap (λ x. x >>= λ n. Ok (record { list = (scan s i).list; end_size = n })) (scanned-ends s i f q).end-bytes
 
-pub codes-refused : (s : List ℕ) (i : CodeBytes) (r : Refusal) → scanned (scan s i) ≡ Refused r → codes_at s i ≡ refuse r
-codes-refused s i r q = ap (λ x. x >>= λ n. ok (record { list = (scan s i).list; end_size = n })) (scanned-refused s i r q)
+pub codes-refused : (s : List ℕ) (i : CodeBytes) (r : Refusal) → scanned (scan s i) ≡ Err r → codes_at s i ≡ Err r
+codes-refused s i r q = ap (λ x. x >>= λ n. Ok (record { list = (scan s i).list; end_size = n })) (scanned-refused s i r q)

@@ -2,15 +2,15 @@
 // records.
 #![tactic(auto)]
 
-ghost use Rattle.std.specs.Prelude.{◌≡◌, ◌+◌, ◌<◌};
+ghost use Rattle.std.specs.Prelude.{◌≡◌};
 ghost use Rattle.codes.specs.Code.{take_at, scan as scan_of};
 ghost use Rattle.codes.specs.AsCoded.Rows.{row_numbers};
 ghost use Rattle.codes.specs.AsCoded.Sizing.{sized};
-ghost use Rattle.reader.specs.AsCoded.Reading.{past, moved, scanned, turn, so_far, more};
+ghost use Rattle.reader.specs.AsCoded.Reading.{past, moved, scanned};
 ghost use Rattle.reader.specs.AsCoded.Skip.{skip_at};
 
-use codes::{Sized, size_at};
-use words::{CodeBytes, Refusal, halfword_bytes};
+use codes::{Taken, size_at};
+use words::{CodeBytes, Halfwords, Refusal, halfword_bytes};
 
 // The reader of RULES 3.6: the code bytes, which are lent, and the index that it has come to.
 #[derive(Clone, Copy)]
@@ -22,14 +22,14 @@ pub struct Reader<'a> {
 // What a reader took, without what it undoes, and the reader behind it.
 #[derive(Clone, Copy)]
 pub struct Step<'a> {
-    pub taken: Sized,
+    pub taken: Taken<Halfwords>,
     pub rest: Reader<'a>,
 }
 
 // What stands at an index, and where a reader stands that has taken it.
 #[derive(Clone, Copy)]
 struct Moved {
-    taken: Sized,
+    taken: Taken<Halfwords>,
     at: CodeBytes,
 }
 
@@ -39,9 +39,9 @@ fn move_at(codes: &[u8], at: CodeBytes, t: &[u8; 256]) -> Moved
 {
     let taken = size_at(t, codes, at);
     match taken {
-        Sized::One(_, next) => Moved { taken, at: next },
-        Sized::Last(_) => Moved { taken, at },
-        Sized::Bad(_) => Moved { taken, at },
+        Taken::One(_, next) => Moved { taken, at: next },
+        Taken::Last(_) => Moved { taken, at },
+        Taken::Bad(_) => Moved { taken, at },
     }
 }
 
@@ -69,82 +69,43 @@ impl<'a> Reader<'a> {
     }
 }
 
-// What a pass over a code list finds.
+// What a pass over a code list finds: the halfwords of the list's instructions, and of its end code's.
 #[derive(Clone, Copy)]
-pub enum Scanned {
-    // the halfwords of the list's instructions, and of its end code's instruction
-    Ends(u64, u64),
-    Refused(Refusal),
-}
-
-// A turn of a pass: whether there is more to take, and what is found so far.
-#[derive(Clone, Copy)]
-struct Turn {
-    on: bool,
-    found: Scanned,
-}
-
-// Adds what was taken to a pass.
-fn add(s: Scanned, t: Sized) -> Turn
-    requires { so_far s + more t < 18446744073709551616 }
-    ensures { result ≡ turn t s }
-{
-    match t {
-        Sized::One(n, _) => match s {
-            Scanned::Ends(h, _) => Turn {
-                on: true,
-                found: Scanned::Ends(h + n.0 as u64, 0),
-            },
-            Scanned::Refused(_) => Turn {
-                on: false,
-                found: s,
-            },
-        },
-        Sized::Last(n) => match s {
-            Scanned::Ends(h, _) => Turn {
-                on: false,
-                found: Scanned::Ends(h, n.0 as u64),
-            },
-            Scanned::Refused(_) => Turn {
-                on: false,
-                found: s,
-            },
-        },
-        Sized::Bad(i) => Turn {
-            on: false,
-            found: Scanned::Refused(Refusal::BadCodes(i)),
-        },
-    }
+pub struct Ends {
+    pub list: u64,
+    pub end: u64,
 }
 
 // One pass of a reader over the code list at an index. The table of `codes` is lent.
-pub fn scan(t: &[u8; 256], codes: &[u8], at: CodeBytes) -> Scanned
+pub fn scan(t: &[u8; 256], codes: &[u8], at: CodeBytes) -> Result<Ends, Refusal>
     requires { t.now ≡ row_numbers }
     ensures { result ≡ scanned (scan_of codes.now at) }
 {
     let mut r = Reader::new(codes, at);
-    let mut s = Scanned::Ends(0, 0);
+    let mut list: u64 = 0;
     loop {
         let p = r.take(t);
-        let u = add(s, p.taken);
-        s = u.found;
-        if !u.on {
-            break;
+        match p.taken {
+            Taken::One(n, _) => {
+                list += n.0 as u64;
+            }
+            Taken::Last(n) => {
+                return Ok(Ends {
+                    list,
+                    end: n.0 as u64,
+                });
+            }
+            Taken::Bad(i) => {
+                return Err(Refusal::BadCodes(i));
+            }
         }
         r = p.rest;
     }
-    s
 }
 
-// Where skipping ends.
-#[derive(Clone, Copy)]
-pub enum Skipped {
-    At(CodeBytes),
-    Nowhere,
-}
-
-// Skips the codes from an index on whose instructions take n bytes. The table of `codes` is lent.
-pub fn skip(t: &[u8; 256], codes: &[u8], at: CodeBytes, n: u64) -> Skipped
+// Skips the codes from an index on whose instructions take n bytes; none if n bytes end inside an instruction or behind the list. The
+// table of `codes` is lent.
+pub fn skip(t: &[u8; 256], codes: &[u8], at: CodeBytes, n: u64) -> Option<CodeBytes>
     requires { t.now ≡ row_numbers }
     ensures { result ≡ skip_at codes.now at n }
 {
@@ -153,21 +114,21 @@ pub fn skip(t: &[u8; 256], codes: &[u8], at: CodeBytes, n: u64) -> Skipped
     while left != 0 {
         let c = size_at(t, codes, CodeBytes(i));
         match c {
-            Sized::One(h, next) => {
+            Taken::One(h, next) => {
                 let size = halfword_bytes(h);
                 if left < size {
-                    return Skipped::Nowhere;
+                    return None;
                 }
                 left -= size;
                 i = next.0;
             }
-            Sized::Last(_) => {
-                return Skipped::Nowhere;
+            Taken::Last(_) => {
+                return None;
             }
-            Sized::Bad(_) => {
-                return Skipped::Nowhere;
+            Taken::Bad(_) => {
+                return None;
             }
         }
     }
-    Skipped::At(CodeBytes(i))
+    Some(CodeBytes(i))
 }

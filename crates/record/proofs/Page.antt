@@ -1,15 +1,15 @@
 -- The seven examples of Microsoft's page as computed vectors (RULES 11.4), with packed forms that are easily mistaken (RULES 4.12).
 -- Assumes nothing.
+use Rattle.std.specs.Prelude.{Ok, Err}
 use Prim.Native.Nat.{ℕ, ◌+◌, ◌^◌}
 use mathlib.Core.Path.{◌≡◌, refl}
 use mathlib.Core.List.{List, ◌∷◌, ◌++◌, []}
 use lib.ListN.{replicate, length}
 use Rattle.lent.specs.Lent.{Lent}
 use Rattle.words.specs.Units.{halfwords, stack_words, code_bytes}
-use Rattle.words.specs.declared.Verdict.TheVariants.{Given}
 use Rattle.words.specs.declared.Place.TheVariants.{Prologue, Body, Epilogue}
 use Rattle.words.specs.declared.Refusal.TheVariants.{InsideInstruction}
-use Rattle.words.specs.Answer.{Res, ok, refuse, ◌>>=◌}
+use Rattle.words.specs.Answer.{Res, ◌>>=◌}
 use Rattle.codes.specs.declared.Code.{Code}
 use Rattle.codes.specs.declared.Undo.{Undo}
 use Rattle.codes.specs.declared.Undo.TheVariants.{Up, Pop, SpFrom}
@@ -25,7 +25,7 @@ use Rattle.record.proofs.At.{at, says}
 
 abbrev wrote : (first second : List ℕ) → (rest : ℕ) → Res CodesOf
 wrote a b n =
-    ok (record { verdict = Given; bytes = a ++ b ++ replicate n 0; first = code_bytes (length a); second = code_bytes (length b) })
+    Ok (record { bytes = a ++ b ++ replicate n 0; first = code_bytes (length a); second = code_bytes (length b) })
 
 abbrev codes_of : Packed → Res CodesOf
 codes_of p = write_word p >>= write_codes
@@ -69,7 +69,7 @@ pop-lr = refl
 abbrev four : Lent
 four = record { base = 0x1000; bytes = bytes_of (0x120001A3 ∷ 0x00E00011 ∷ 0x00E000A5 ∷ 0x00E00170 ∷ 0x00E00189 ∷ 0x00FFDE06 ∷ []) }
 
-page-4-size : xdata_size four 0x1000 ≡ ok 24
+page-4-size : xdata_size four 0x1000 ≡ Ok 24
 unfolding opened
 page-4-size = refl
 
@@ -87,7 +87,7 @@ page-4-third : at (full_shape four 0x1000) 0x2E2 ≡ says Epilogue (c_de ∷ [])
 unfolding opened
 page-4-third = refl
 
-page-4-inside : at (full_shape four 0x1000) 0x2E4 ≡ refuse InsideInstruction
+page-4-inside : at (full_shape four 0x1000) 0x2E4 ≡ Err InsideInstruction
 unfolding opened
 page-4-inside = refl
 
@@ -121,11 +121,11 @@ page-5-bx = refl
 abbrev handled : Lent
 handled = record { base = 0x1000; bytes = bytes_of (0x20300027 ∷ 0x90ED05C7 ∷ 0x000000FF ∷ 0x0019A7ED ∷ []) }
 
-page-6-size : xdata_size handled 0x1000 ≡ ok 16
+page-6-size : xdata_size handled 0x1000 ≡ Ok 16
 unfolding opened
 page-6-size = refl
 
-page-6-handler : (full_shape handled 0x1000 >>= λ s. ok s.handler) ≡ ok 0x0019A7ED
+page-6-handler : (full_shape handled 0x1000 >>= λ s. Ok s.handler) ≡ Ok 0x0019A7ED
 unfolding opened
 page-6-handler = refl
 

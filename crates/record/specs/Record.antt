@@ -1,10 +1,10 @@
 -- The shape of a .pdata record, full (RULES 2.6 to 2.12) or packed (RULES 4.17).
-use Rattle.std.specs.Prelude.{ℕ, ◌+◌, ◌-◌, List, ◌∷◌, [], take, drop, eqb, if◌then◌else◌}
+use Rattle.std.specs.Prelude.{ℕ, ◌+◌, ◌-◌, List, ◌∷◌, [], take, drop, eqb, if◌then◌else◌, Ok}
 use Rattle.words.specs.Bits.{bits}
 use Rattle.lent.specs.Lent.{Lent}
 use Rattle.words.specs.Units.{code_bytes, code_word_bytes}
 use Rattle.words.specs.declared.CodeBytes.{CodeBytes}
-use Rattle.words.specs.Answer.{Res, ok, ◌>>=◌}
+use Rattle.words.specs.Answer.{Res, ◌>>=◌}
 use Rattle.unwinding.specs.Shape.{Shape}
 use Rattle.unwinding.specs.declared.Scope.{Scope}
 use Rattle.codes.specs.Condition.{always}
@@ -29,14 +29,14 @@ unfoldable pub full_shape : Lent → ℕ → Res Shape
 full_shape x a = do
   h ← head_at x a
   listed ← scopes_at x (a + h.bytes) (scope_count h)
-  ok (full_of x a h listed)
+  Ok (full_of x a h listed)
 
 -- a packed record is the record of the codes that its writer writes, with that one epilogue unless Ret=3 (RULES 4.17)
 unfoldable pub packed_shape : ℕ → Res Shape
 packed_shape w = do
   c ← write_codes w
   let p = fields w
-  ok (record { span = packed_span p; codes = c.bytes; fragment = packed_fragment p; scopes = if eqb p.ret 3 then [] else last_scope c.first ∷ []; handler = 0 })
+  Ok (record { span = packed_span p; codes = c.bytes; fragment = packed_fragment p; scopes = if eqb p.ret 3 then [] else last_scope c.first ∷ []; handler = 0 })
 
 -- by Flag: with 0 the word leads to a full record, else it is packed (RULES 2.2)
 abbrev pub shape_at : Lent → (word : ℕ) → Res Shape

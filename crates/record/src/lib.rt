@@ -4,16 +4,16 @@
 
 ghost use Rattle.std.specs.Prelude.{◌≡◌, ◌+◌, ◌-◌, ◌≤◌, ◌<◌, eqb, length, if◌then◌else◌};
 ghost use Rattle.lent.specs.Lent.{lent};
-ghost use Rattle.words.specs.Answer.{refuse, verdict};
+ghost use Rattle.words.specs.Answer.{verdict};
 ghost use Rattle.record.specs.Record.{shape_at};
 ghost use Rattle.packed.specs.Packed.{Fit};
 ghost use Rattle.xdata.specs.Xdata.{E, codes_offset as spec_codes_offset};
-ghost use Rattle.record.specs.AsCoded.Plan.{read_of, picked, scope_in, scopes_end, scopes_of as spec_scopes_of, plan_of, full_by, after_head, full_plan, full_answer, no_plan, packed_plan_by, packed_by as spec_packed_by, packed_plan, packed_answer};
+ghost use Rattle.record.specs.AsCoded.Plan.{codes_end, codes_in, read_of, scope_in, scopes_end, scopes_of as spec_scopes_of, plan_of, full_by, after_head, full_plan, packed_plan_by, packed_by as spec_packed_by, packed_plan};
 
 use packed::Packed;
 use packed_codes::CodesOf;
 use unwinding::{Scope, Start};
-use words::{CodeBytes, Refusal, Verdict};
+use words::{CodeBytes, Refusal};
 use xdata::Head;
 
 // A record's epilogues: each ends where the function does and has this index, or they are scope words from this offset of the .xdata on.
@@ -41,47 +41,31 @@ pub struct Part {
     pub len: usize,
 }
 
-// A full record: its plan and where its code bytes are; nothing where it is refused.
+// A record's code bytes: sixteen that were written, or a part of the .xdata.
 #[derive(Clone, Copy)]
-pub struct FullOf {
-    pub verdict: Verdict,
-    pub plan: Plan,
-    pub codes: Part,
+pub enum Codes {
+    Written([u8; 16]),
+    Lent(Part),
 }
 
-// A packed record: its plan and its code bytes; nothing where it is refused.
+// A record of either kind: its plan beside its code bytes.
 #[derive(Clone, Copy)]
-pub struct PackedOf {
-    pub verdict: Verdict,
+pub struct Record {
     pub plan: Plan,
-    pub bytes: [u8; 16],
+    pub codes: Codes,
 }
 
-// A record of either kind: its plan, and its code bytes, which are sixteen that were written or a part of the .xdata.
-#[derive(Clone, Copy)]
-pub struct ReadOf {
-    pub verdict: Verdict,
-    pub plan: Plan,
-    pub written: bool,
-    pub codes: Part,
-    pub bytes: [u8; 16],
-}
-
-// The code bytes of a record: those that were written, or the part of the .xdata from start up to end.
-pub fn pick<'a>(
-    written: bool,
-    bytes: &'a [u8],
-    xdata: &'a [u8],
-    start: usize,
-    end: usize,
-) -> &'a [u8]
-    requires { (start ≤ end) × (end ≤ length xdata.now) }
-    ensures { result.now ≡ picked written bytes.now xdata.now start (end - start) }
-{
-    if written {
-        return bytes;
+impl Codes {
+    // The code bytes themselves.
+    pub fn of<'a>(&'a self, xdata: &'a [u8]) -> &'a [u8]
+        requires { codes_end self.now ≤ length xdata.now }
+        ensures { result.now ≡ codes_in self.now xdata.now }
+    {
+        match self {
+            Codes::Written(bytes) => bytes,
+            Codes::Lent(part) => &xdata[part.start..part.start + part.len],
+        }
     }
-    &xdata[start..end]
 }
 
 // The scope of a number; a plan has as many as its count says, and whoever read the plan has found their words in the .xdata.
@@ -144,67 +128,38 @@ fn plan_of(rva: u32, xdata: &[u8], at: u32, h: Head) -> Plan
     }
 }
 
-// The plan of no record.
-fn blank() -> Plan
-    ensures { result ≡ no_plan }
-{
-    Plan {
-        span: 0,
-        fragment: false,
-        count: 0,
-        scopes: Scopes::Listed(0),
-        handler: 0,
-    }
-}
-
-// A refused record.
-fn no_full(why: Refusal) -> FullOf
-    ensures { result ≡ full_answer (refuse why) }
-{
-    FullOf {
-        verdict: Verdict::Refused(why),
-        plan: blank(),
-        codes: Part { start: 0, len: 0 },
-    }
-}
-
 // The record of a head.
-fn full_of(rva: u32, xdata: &[u8], at: u32, h: Head) -> FullOf
+fn full_of(rva: u32, xdata: &[u8], at: u32, h: Head) -> Record
     ensures { result ≡ full_by (lent rva xdata.now) at h }
 {
     let len = words::code_word_bytes(h.codewords);
-    FullOf {
-        verdict: Verdict::Given,
+    Record {
         plan: plan_of(rva, xdata, at, h),
-        codes: Part {
+        codes: Codes::Lent(Part {
             start: offset(rva, at) + (xdata::codes_offset(h) as usize),
             len: len.0,
-        },
+        }),
     }
 }
 
 // The same, if its scopes have Res 0; they are lent, as the head's test of its whole record says.
-fn after_head(rva: u32, xdata: &[u8], at: u32, h: Head) -> FullOf
+fn after_head(rva: u32, xdata: &[u8], at: u32, h: Head) -> Result<Record, Refusal>
     requires { (rva ≤ at) × (at + spec_codes_offset h ≤ rva + length xdata.now) }
-    ensures { result ≡ full_answer (after_head (lent rva xdata.now) at h) }
+    ensures { result ≡ after_head (lent rva xdata.now) at h }
 {
     let first = offset(rva, at) + (h.bytes as usize);
     if xdata::res_zero(xdata, first, xdata::scope_count(h) as usize) {
-        return full_of(rva, xdata, at, h);
+        return Ok(full_of(rva, xdata, at, h));
     }
-    no_full(Refusal::Reserved)
+    Err(Refusal::Reserved)
 }
 
 // The full record at an RVA: what its head is refused for, then its scopes' Res (RULES 9.52).
-fn full(rva: u32, xdata: &[u8], at: u32) -> FullOf
-    ensures { result ≡ full_answer (full_plan (lent rva xdata.now) at) }
+fn full(rva: u32, xdata: &[u8], at: u32) -> Result<Record, Refusal>
+    ensures { result ≡ full_plan (lent rva xdata.now) at }
 {
-    let read = xdata::head_at(rva, xdata, at);
-    let verdict = read.verdict;
-    match verdict {
-        Verdict::Given => after_head(rva, xdata, at, read.head),
-        Verdict::Refused(why) => no_full(why),
-    }
+    let head = xdata::head_at(rva, xdata, at)?;
+    after_head(rva, xdata, at, head)
 }
 
 // A packed record has no epilogue for Ret=3, else one (RULES 4.7).
@@ -232,74 +187,38 @@ fn plan_by(p: Packed, first: CodeBytes) -> Plan
 }
 
 // The record of an allowed word and its code bytes.
-fn packed_by(word: u32, c: CodesOf) -> PackedOf
+fn packed_by(word: u32, c: CodesOf) -> Record
     ensures { result ≡ spec_packed_by word c }
 {
-    let bytes = c.bytes;
-    PackedOf {
-        verdict: Verdict::Given,
+    Record {
         plan: plan_by(packed::fields(word), c.first),
-        bytes: bytes,
-    }
-}
-
-// A refused packed record.
-fn no_packed(why: Refusal) -> PackedOf
-    ensures { result ≡ packed_answer (refuse why) }
-{
-    PackedOf {
-        verdict: Verdict::Refused(why),
-        plan: blank(),
-        bytes: [0u8; 16],
+        codes: Codes::Written(c.bytes),
     }
 }
 
 // The packed record of a word: its plan and its code bytes.
-fn packed(word: u32) -> PackedOf
-    ensures { result ≡ packed_answer (packed_plan word) }
+#[tactic(auto, unfolding(crate::specs::AsCoded::Plan::packed_plan))]
+fn packed(word: u32) -> Result<Record, Refusal>
+    ensures { result ≡ packed_plan word }
 {
-    let c = packed_codes::write_codes(word);
-    let verdict = c.verdict;
-    match verdict {
-        Verdict::Given => packed_by(word, c),
-        Verdict::Refused(why) => no_packed(why),
-    }
+    let c = packed_codes::write_codes(word)?;
+    Ok(packed_by(word, c))
 }
 
 // The record that word 1 of a .pdata record names, by its Flag (RULES 2.2).
-pub fn read(rva: u32, xdata: &[u8], word: u32) -> ReadOf
+pub fn read(rva: u32, xdata: &[u8], word: u32) -> Result<Record, Refusal>
     ensures { result ≡ read_of (lent rva xdata.now) word }
 {
     if words::bits(word, 0, 2) == 0 {
-        let f = full(rva, xdata, word);
-        let verdict = f.verdict;
-        let plan = f.plan;
-        let codes = f.codes;
-        return ReadOf {
-            verdict,
-            plan,
-            written: false,
-            codes,
-            bytes: [0u8; 16],
-        };
+        return full(rva, xdata, word);
     }
-    let p = packed(word);
-    let verdict = p.verdict;
-    let plan = p.plan;
-    let bytes = p.bytes;
-    ReadOf {
-        verdict,
-        plan,
-        written: true,
-        codes: Part { start: 0, len: 0 },
-        bytes,
-    }
+    packed(word)
 }
 
 // 4 and 5 for word 1 of a .pdata record (RULES 9.51, 9.52).
-pub fn judge(rva: u32, xdata: &[u8], word: u32) -> Verdict
+pub fn judge(rva: u32, xdata: &[u8], word: u32) -> Result<(), Refusal>
     ensures { result ≡ verdict (shape_at (lent rva xdata.now) word) }
 {
-    let f = read(rva, xdata, word);
-    f.verdict
+    read(rva, xdata, word)?;
+    Ok(())
 }

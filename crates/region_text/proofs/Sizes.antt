@@ -1,14 +1,14 @@
 -- The largest outline: how much room a frame's regions need. A table has at most 64 regions, each stands in the outline once, and a region
 -- stands no deeper than there are regions.
 -- Assumes nothing.
-use Rattle.std.specs.Prelude.{if◌then◌else◌}
+use Rattle.std.specs.Prelude.{if◌then◌else◌, Ok, Err}
 use Prim.Native.Nat.{ℕ, suc, ◌+◌, ◌-◌, ◌*◌, ◌%◌, ◌≤◌}
 use mathlib.Core.Path.{◌≡◌, refl, ap, ◌∙◌}
 use mathlib.Core.Bool.{Bool, true, false}
 use mathlib.Core.List.{List, [], ◌∷◌, ◌++◌}
 use lib.ListN.{length, length-append, length-replicate}
 use native.Mathlib.Omega.{arith}
-use Rattle.words.specs.Answer.{Res, ok, refuse, either}
+use Rattle.words.specs.Answer.{Res, either}
 use Rattle.lent.specs.Lent.{Lent, word_at}
 use Rattle.xdata.specs.Xdata.{handled, xdata_size}
 use Rattle.regions.specs.declared.Region.{Region}
@@ -129,5 +129,5 @@ regions-fit a x w = go (xdata_size x w)
     behind-fits n false = listed-length a [] (omega arith)
 
     go : (s : Res ℕ) → length (regions_text a (either s (λ r. denied (Record r)) (λ n. table_behind x at n))) ≤ 10700
-    go (ok n) = behind-fits n (handled (word_at x at))
-    go (refuse r) = refused-length (Record r)
+    go (Ok n) = behind-fits n (handled (word_at x at))
+    go (Err r) = refused-length (Record r)

@@ -10,7 +10,7 @@ ghost use Rattle.text.specs.Overlay.{Laid};
 ghost use Rattle.region_text.specs.RegionText.{indent, mark, region_line, outline_text, refused_line, regions_text};
 ghost use Rattle.region_text.specs.AsCoded.Part.{unindented, in_list as spec_in_list, PutRegion, PutList};
 
-use regions::{Region, RegionRefusal, RegionVerdict};
+use regions::{Region, RegionRefusal};
 use text::{put_addresses, put_byte, put_count, put_hex8, put_text};
 
 // The place behind a list that was printed, in the buffer and in the order of regions.
@@ -166,10 +166,8 @@ fn put_refused(out: &mut [u8], at: usize, r: RegionRefusal) -> usize
 pub fn put_regions(out: &mut [u8], at: usize, rva: u32, xdata: &[u8], word: u32, pc: u32) -> usize
     ensures { Laid out.old at (regions_text pc (regions_of (lent rva xdata.now) word)) result out.new }
 {
-    let t = regions::table(rva, xdata, word);
-    let verdict = t.verdict;
-    match verdict {
-        RegionVerdict::Given => put_table(out, at, xdata, t.first, t.count, pc),
-        RegionVerdict::Refused(r) => put_refused(out, at, r),
+    match regions::table(rva, xdata, word) {
+        Ok(t) => put_table(out, at, xdata, t.first, t.count, pc),
+        Err(r) => put_refused(out, at, r),
     }
 }

@@ -1,6 +1,6 @@
 -- A region table by what its tests say; a table that is given lies in the .xdata, and it lists the regions of RULES 2.14.
 -- Assumes nothing.
-use Rattle.std.specs.Prelude.{if◌then◌else◌}
+use Rattle.std.specs.Prelude.{if◌then◌else◌, Result, Ok, Err, IfOk}
 use Prim.Native.Nat.{ℕ, ◌+◌, ◌-◌, ◌*◌, ◌%◌, ◌≤◌, ◌<◌}
 use mathlib.Core.Path.{◌≡◌, refl, sym, ap, ◌∙◌}
 use mathlib.Core.Bool.{Bool, true, false, ◌&&◌}
@@ -9,21 +9,18 @@ use lib.Dec.{leb, eqb}
 use native.Mathlib.Omega.{arith}
 use borrow.Author.Tests.{leb-true, le-leb, lt-leb}
 use Rattle.words.specs.declared.Refusal.{Refusal}
-use Rattle.words.specs.declared.Verdict.TheVariants as Verdict
-use Rattle.words.specs.Answer.{Res, ok, refuse, either}
+use Rattle.words.specs.Answer.{Res, either}
 use Rattle.words.proofs.Answers.{need-ok}
 use Rattle.words.proofs.Tests.{both, and-true, and-false}
 use Rattle.lent.specs.Lent.{Lent, end, holds, word_at}
-use Rattle.xdata.specs.declared.SizeOf.{SizeOf}
-use Rattle.xdata.specs.Xdata.{fit_xdata, handled, xdata_size, size_answer}
+use Rattle.xdata.specs.Xdata.{fit_xdata, handled, xdata_size}
 use Rattle.regions.specs.declared.Region.{Region}
-use Rattle.regions.specs.declared.TableOf.{TableOf}
+use Rattle.regions.specs.declared.Regions.{Regions}
 use Rattle.regions.specs.declared.RegionRefusal.{RegionRefusal}
 use Rattle.regions.specs.declared.RegionRefusal.TheVariants.{Record, TableOutside, Crossed}
-use Rattle.regions.specs.declared.RegionVerdict.TheVariants.{Given, Refused}
 use Rattle.regions.specs.Region.{regions_from, sound}
 use Rattle.regions.specs.Table.{Listed, listed, denied, table_lent, first_of, table_at, table_behind, regions_of}
-use Rattle.regions.specs.AsCoded.Table.{table_given, no_table, sound_table, table_read, table_after, table_of, listed_in}
+use Rattle.regions.specs.AsCoded.Table.{table_given, sound_table, table_read, table_after, table_of, listed_in}
 
 -- bytes that are lent lie between the ends
 pub inside : (x : Lent) (a n : ℕ) → holds x a n ≡ true → (x.base ≤ a) × (a + n ≤ end x)
@@ -51,29 +48,20 @@ lent-inside x a h =
     let i = inside x a 4 q.0 in
     (i.0, i.1, leb-true _ _ q.1)
 
--- ---- the record's size, by its verdict
-pub size-told : (r : Res ℕ) (s : SizeOf) → s ≡ size_answer r → s.verdict ≡ Verdict.Given → r ≡ ok s.bytes
-size-told (ok n) s e v = ap ok (sym (ap (λ x. x.bytes) e))
-size-told (refuse why) s e v = absurd (let z : ◌≡◌ {A = ℕ} 0 1 = cc (ap (λ x. x.verdict) e) in omega arith)
-
-pub size-denied : (r : Res ℕ) (s : SizeOf) (why : Refusal) → s ≡ size_answer r → s.verdict ≡ Verdict.Refused why → r ≡ refuse why
-size-denied (ok n) s why e v = absurd (let z : ◌≡◌ {A = ℕ} 0 1 = cc (ap (λ x. x.verdict) e) in omega arith)
-size-denied (refuse other) s why e v = let z : other ≡ why = cc (ap (λ x. x.verdict) e) in ap (λ x. refuse x) z
-
 -- a record has a size only in an .xdata that ends at 2^32 or before
-pub size-fit : (x : Lent) (a n : ℕ) → xdata_size x a ≡ ok n → fit_xdata x ≡ true
+pub size-fit : (x : Lent) (a n : ℕ) → xdata_size x a ≡ Ok n → fit_xdata x ≡ true
 unfolding xdata_size
 size-fit x a n h = (need-ok (fit_xdata x) _ _ n h).0
 
-pub size-end : (x : Lent) (a n : ℕ) → xdata_size x a ≡ ok n → end x ≤ 4294967296
+pub size-end : (x : Lent) (a n : ℕ) → xdata_size x a ≡ Ok n → end x ≤ 4294967296
 size-end x a n h = leb-true _ _ (both (eqb (x.base % 4) 0) (leb (end x) 4294967296) (size-fit x a n h)).1
 
 -- ---- the table, by the record's size
-pub table-given : (x : Lent) (a n : ℕ) → xdata_size x a ≡ ok n → table_of x a ≡ table_after x (a - a % 4) n
+pub table-given : (x : Lent) (a n : ℕ) → xdata_size x a ≡ Ok n → table_of x a ≡ table_after x (a - a % 4) n
 unfolding table_of
 table-given x a n h = rw h refl
 
-pub table-refused : (x : Lent) (a : ℕ) (why : Refusal) → xdata_size x a ≡ refuse why → table_of x a ≡ no_table (Record why)
+pub table-refused : (x : Lent) (a : ℕ) (why : Refusal) → xdata_size x a ≡ Err why → table_of x a ≡ Err (Record why)
 unfolding table_of
 table-refused x a why h = rw h refl
 
@@ -87,20 +75,20 @@ sound_by t rs = if t then listed rs else denied Crossed
 abbrev pub table_by : Bool → List Region → Listed
 table_by t rs = if t then sound_by (sound rs) rs else denied TableOutside
 
-abbrev read_by : Lent → (at : ℕ) → Bool → TableOf
-read_by x a t = if t then sound_table x.bytes (first_of x a) (word_at x a) else no_table TableOutside
+abbrev read_by : Lent → (at : ℕ) → Bool → Result Regions RegionRefusal
+read_by x a t = if t then sound_table x.bytes (first_of x a) (word_at x a) else Err TableOutside
 
 -- ---- where a table begins, and how many regions it has
-abbrev Small : TableOf → Type 0
-Small t = (t.first ≤ 4294967296) × (t.count ≤ 64)
+abbrev Small : Result Regions RegionRefusal → Type 0
+Small r = IfOk r (λ t. (t.first ≤ 4294967296) × (t.count ≤ 64))
 
-small-sound : (f n : ℕ) → f ≤ 4294967296 → n ≤ 64 → (t : Bool) → Small (if t then table_given f n else no_table Crossed)
+small-sound : (f n : ℕ) → f ≤ 4294967296 → n ≤ 64 → (t : Bool) → Small (if t then table_given f n else Err Crossed)
 small-sound f n p q true = (p, q)
-small-sound f n p q false = (omega arith, omega arith)
+small-sound f n p q false = tt
 
 small-read : (x : Lent) (a : ℕ) → end x ≤ 4294967296 → (t : Bool) → table_lent x a ≡ t → Small (read_by x a t)
 small-read x a m true h = let p = lent-inside x a h in small-sound (first_of x a) (word_at x a) (omega (arith, p.1)) p.2 (sound (rows_of x a))
-small-read x a m false h = (omega arith, omega arith)
+small-read x a m false h = tt
 
 small-after : (x : Lent) (a : ℕ) → end x ≤ 4294967296 → (t : Bool) → Small (if t then table_read x a else table_given 0 0)
 small-after x a m true = small-read x a m (table_lent x a) refl
@@ -110,12 +98,12 @@ pub table-small : (x : Lent) (a : ℕ) → Small (table_of x a)
 unfolding table_of
 table-small x a = go (xdata_size x a) refl
   where
-    go : (r : Res ℕ) → xdata_size x a ≡ r → Small (either r (λ r. no_table (Record r)) (λ n. table_after x (a - a % 4) n))
-    go (ok n) e = small-after x (a - a % 4 + n) (size-end x a n e) (handled (word_at x (a - a % 4)))
-    go (refuse why) e = (omega arith, omega arith)
+    go : (r : Res ℕ) → xdata_size x a ≡ r → Small (either r (λ r. Err (Record r)) (λ n. table_after x (a - a % 4) n))
+    go (Ok n) e = small-after x (a - a % 4 + n) (size-end x a n e) (handled (word_at x (a - a % 4)))
+    go (Err why) e = tt
 
 -- ---- what a table lists
-listed-sound : (s : List ℕ) (f n : ℕ) (t : Bool) → listed_in s (if t then table_given f n else no_table Crossed) ≡ sound_by t (regions_from s f 0 n)
+listed-sound : (s : List ℕ) (f n : ℕ) (t : Bool) → listed_in s (if t then table_given f n else Err Crossed) ≡ sound_by t (regions_from s f 0 n)
 listed-sound s f n true = refl
 listed-sound s f n false = refl
 
@@ -131,21 +119,19 @@ listed-after x a false = refl
 
 listed-either :
     (x : Lent) (a : ℕ) (r : Res ℕ)
-    → listed_in x.bytes (either r (λ r. no_table (Record r)) (λ n. table_after x a n))
+    → listed_in x.bytes (either r (λ r. Err (Record r)) (λ n. table_after x a n))
     ≡ either r (λ r. denied (Record r)) (λ n. table_behind x a n)
-listed-either x a (ok n) = listed-after x (a + n) (handled (word_at x a))
-listed-either x a (refuse why) = refl
+listed-either x a (Ok n) = listed-after x (a + n) (handled (word_at x a))
+listed-either x a (Err why) = refl
 
 -- the table names the regions of the record
 pub table-listed : (x : Lent) (a : ℕ) → listed_in x.bytes (table_of x a) ≡ regions_of x a
 unfolding table_of regions_of
 table-listed x a = listed-either x (a - a % 4) (xdata_size x a)
 
--- the same by its verdict
-pub table-lists :
-    (x : Lent) (a : ℕ) → (table_of x a).verdict ≡ Given
-    → regions_of x a ≡ listed (regions_from x.bytes (table_of x a).first 0 (table_of x a).count)
-table-lists x a h = sym (table-listed x a) ∙ rw h refl
+-- the same by its answer
+pub table-lists : (x : Lent) (a : ℕ) (t : Regions) → table_of x a ≡ Ok t → regions_of x a ≡ listed (regions_from x.bytes t.first 0 t.count)
+table-lists x a t h = sym (table-listed x a) ∙ ap (listed_in x.bytes) h
 
-pub table-denies : (x : Lent) (a : ℕ) (r : RegionRefusal) → (table_of x a).verdict ≡ Refused r → regions_of x a ≡ denied r
-table-denies x a r h = sym (table-listed x a) ∙ rw h refl
+pub table-denies : (x : Lent) (a : ℕ) (r : RegionRefusal) → table_of x a ≡ Err r → regions_of x a ≡ denied r
+table-denies x a r h = sym (table-listed x a) ∙ ap (listed_in x.bytes) h

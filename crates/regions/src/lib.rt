@@ -1,13 +1,17 @@
 // The guarded regions of an .xdata record (RULES 2.14): the table behind the handler word. It knows no registers and no pc.
 #![tactic(auto)]
 
-ghost use Rattle.std.specs.Prelude.{◌≡◌, ◌+◌, ◌-◌, ◌≤◌, length};
+ghost use Rattle.std.specs.Prelude.{◌≡◌, ◌+◌, ◌-◌, ◌≤◌, length, IfOk};
 ghost use Rattle.lent.specs.Lent.{lent};
 ghost use Rattle.regions.specs.Region.{region_from, region_in, regions_from, upright as upright_of, overlaps as overlaps_of, cross as cross_of, clear, sound as sound_of};
+ghost use Rattle.regions.specs.declared.RegionRefusal.TheVariants.{Record};
 ghost use Rattle.regions.specs.Table.{region_number, table_lent as spec_table_lent};
-ghost use Rattle.regions.specs.AsCoded.Table.{no_table as spec_no_table, sound_table as spec_sound_table, table_read as spec_table_read, table_after as spec_table_after, table_of};
+ghost use Rattle.regions.specs.AsCoded.Table.{sound_table as spec_sound_table, table_read as spec_table_read, table_after as spec_table_after, table_of};
 
-use words::{Refusal, Verdict};
+use words::Refusal;
+
+// No table has more (RULES 9.15).
+const MOST_REGIONS: u32 = 64;
 
 // A guarded region: its number in the table, from 0, and its four words.
 #[derive(Clone, Copy)]
@@ -28,16 +32,17 @@ pub enum RegionRefusal {
     Crossed,
 }
 
-#[derive(Clone, Copy)]
-pub enum RegionVerdict {
-    Given,
-    Refused(RegionRefusal),
+impl From<Refusal> for RegionRefusal {
+    ghost from_gives = { λ r e. e ≡ Record r };
+
+    fn from(r: Refusal) -> RegionRefusal {
+        RegionRefusal::Record(r)
+    }
 }
 
-// Where the first region begins in the .xdata, and how many there are; zeros where they are refused.
+// The regions of a table: where the first one begins in the .xdata, and how many there are.
 #[derive(Clone, Copy)]
-pub struct TableOf {
-    pub verdict: RegionVerdict,
+pub struct Regions {
     pub first: usize,
     pub count: usize,
 }
@@ -119,12 +124,10 @@ fn clear_of(xdata: &[u8], first: usize, r: Region, from: usize, n: usize) -> boo
     requires { (first ≤ 4294967296) × (n ≤ 64) }
     ensures { result ≡ clear r (regions_from xdata.now first from (n - from)) }
 {
-    let mut k = from;
-    while k < n {
+    for k in from..n {
         if cross(r, read(xdata, first, k as u8)) {
             return false;
         }
-        k += 1;
     }
     true
 }
@@ -134,8 +137,7 @@ fn sound(xdata: &[u8], first: usize, n: usize) -> bool
     requires { (first ≤ 4294967296) × (n ≤ 64) }
     ensures { result ≡ sound_of (regions_from xdata.now first 0 n) }
 {
-    let mut k = 0;
-    while k < n {
+    for k in 0..n {
         let r = read(xdata, first, k as u8);
         if !upright(r) {
             return false;
@@ -143,35 +145,19 @@ fn sound(xdata: &[u8], first: usize, n: usize) -> bool
         if !clear_of(xdata, first, r, k + 1, n) {
             return false;
         }
-        k += 1;
     }
     true
 }
 
-// A refused table.
-fn no_table(why: RegionRefusal) -> TableOf
-    ensures { result ≡ spec_no_table why }
-{
-    TableOf {
-        verdict: RegionVerdict::Refused(why),
-        first: 0,
-        count: 0,
-    }
-}
-
 // A table that is lent, if it is sound.
-fn sound_table(xdata: &[u8], first: usize, n: usize) -> TableOf
+fn sound_table(xdata: &[u8], first: usize, n: usize) -> Result<Regions, RegionRefusal>
     requires { (first ≤ 4294967296) × (n ≤ 64) }
     ensures { result ≡ spec_sound_table xdata.now first n }
 {
-    if sound(xdata, first, n) {
-        return TableOf {
-            verdict: RegionVerdict::Given,
-            first: first,
-            count: n,
-        };
+    if !sound(xdata, first, n) {
+        return Err(RegionRefusal::Crossed);
     }
-    no_table(RegionRefusal::Crossed)
+    Ok(Regions { first, count: n })
 }
 
 // What 15 asks. An .xdata that passes 1 is no longer than that, so an address in it has room for what is added to it.
@@ -183,45 +169,37 @@ fn table_lent(rva: u32, xdata: &[u8], at: u64) -> bool
         return false;
     }
     let n = lent::word_at(rva, xdata, at);
-    n <= 64 && lent::holds(rva, xdata, at + 4, 16 * (n as u64))
+    n <= MOST_REGIONS && lent::holds(rva, xdata, at + 4, 16 * (n as u64))
 }
 
 // The table whose count word stands at an RVA.
-fn table_read(rva: u32, xdata: &[u8], at: u64) -> TableOf
+fn table_read(rva: u32, xdata: &[u8], at: u64) -> Result<Regions, RegionRefusal>
     requires { length xdata.now ≤ 4294967296 }
     ensures { result ≡ spec_table_read (lent rva xdata.now) at }
 {
     if !table_lent(rva, xdata, at) {
-        return no_table(RegionRefusal::TableOutside);
+        return Err(RegionRefusal::TableOutside);
     }
     let n = lent::word_at(rva, xdata, at);
     sound_table(xdata, (at + 4 - (rva as u64)) as usize, n as usize)
 }
 
 // The table behind a record of so many bytes; there is none without a handler word.
-fn table_after(rva: u32, xdata: &[u8], at: u32, bytes: u32) -> TableOf
+fn table_after(rva: u32, xdata: &[u8], at: u32, bytes: u32) -> Result<Regions, RegionRefusal>
     requires { length xdata.now ≤ 4294967296 }
     ensures { result ≡ spec_table_after (lent rva xdata.now) at bytes }
 {
     if xdata::handled(lent::word_at(rva, xdata, at as u64)) {
         return table_read(rva, xdata, (at as u64) + (bytes as u64));
     }
-    TableOf {
-        verdict: RegionVerdict::Given,
-        first: 0,
-        count: 0,
-    }
+    Ok(Regions { first: 0, count: 0 })
 }
 
 // The table of the record at an RVA, of which bits 0-1 are cleared (RULES 2.14).
-pub fn table(rva: u32, xdata: &[u8], at: u32) -> TableOf
+pub fn table(rva: u32, xdata: &[u8], at: u32) -> Result<Regions, RegionRefusal>
     ensures value { result ≡ table_of (lent rva xdata.now) at }
-    ensures first_bound { (result.first ≤ 4294967296) × (result.count ≤ 64) }
+    ensures first_bound { IfOk result (λ t. (t.first ≤ 4294967296) × (t.count ≤ 64)) }
 {
-    let size = xdata::xdata_size(rva, xdata, at);
-    let verdict = size.verdict;
-    match verdict {
-        Verdict::Given => table_after(rva, xdata, at - at % 4, size.bytes),
-        Verdict::Refused(why) => no_table(RegionRefusal::Record(why)),
-    }
+    let bytes = xdata::xdata_size(rva, xdata, at)?;
+    table_after(rva, xdata, at - at % 4, bytes)
 }

@@ -3,9 +3,7 @@
 use Prim.Native.Nat.{ℕ, zero, suc, ◌+◌, ◌*◌, ◌<◌}
 use mathlib.Core.Path.{◌≡◌, refl, sym, ap, ◌∙◌}
 use mathlib.Core.List.{List, [], ◌∷◌}
-use lib.ListN.{length, get_or, set}
-use lib.Seq.{get_or-set_same, get_or-set_other}
-use borrow.Author.Count.{below_more}
+use lib.ListN.{length, get_or}
 use native.Mathlib.Nat.{mul-zero, mul-suc}
 use native.Mathlib.Omega.{arith}
 use Rattle.lent.specs.Little.{word32, word64}
@@ -32,8 +30,3 @@ words32-is s = row_is 4 (word32 s) (words32 s) (λ a. refl) (λ a n. refl)
 pub words64-is : (s : List ℕ) (a n : ℕ) (l : List ℕ) → length l ≡ n → ((k : ℕ) → k < n → get_or l k 0 ≡ word64 s (a + 8 * k)) → l ≡ words64 s a n
 unfolding words64
 words64-is s = row_is 8 (word64 s) (words64 s) (λ a. refl) (λ a n. refl)
-
--- a list of which the elements below i are right, after the one at i is stored
-pub stored : (f : ℕ → ℕ) (l : List ℕ) (i : ℕ) {v : ℕ} → i < length l → ((k : ℕ) → k < i → get_or l k 0 ≡ f k) → v ≡ f i → (k : ℕ) → k < i + 1 → get_or (set l i v) k 0 ≡ f k
-stored f l i {v} lt below here =
-    below_more (λ k. get_or (set l i v) k 0 ≡ f k) i (λ k h. get_or-set_other l i k v 0 (λ e. omega arith) ∙ below k h) (get_or-set_same l i v 0 lt ∙ here)

@@ -1,9 +1,9 @@
 -- The report file: a mark, numbers and registers at the offsets of RULES 8.1, then three parts, which end with the file (RULES 8.2).
-use Rattle.std.specs.Prelude.{ℕ, zero, suc, ◌+◌, ◌*◌, List, [], ◌∷◌, ◌&&◌, length, take, leb, eqb}
+use Rattle.std.specs.Prelude.{ℕ, zero, suc, ◌+◌, ◌*◌, List, [], ◌∷◌, ◌&&◌, length, take, leb, eqb, Ok}
 use Rattle.lent.specs.Little.{word32, word64}
 use Rattle.lent.specs.Parts.{same, part}
 use Rattle.words.specs.declared.Refusal.TheVariants.{UnfitReport}
-use Rattle.words.specs.Answer.{Res, ok, ◌>>◌, need}
+use Rattle.words.specs.Answer.{Res, ◌>>◌, need}
 use Rattle.machine.specs.declared.Regs.{Regs}
 use Rattle.frame.specs.Frame.{Inputs, inputs}
 
@@ -71,4 +71,4 @@ report s = do
   need (leb head_bytes (length s) && leb (length s) 65536) UnfitReport
   need (same (take 8 s) mark) UnfitReport
   need (eqb (length s) (end_at s)) UnfitReport
-  ok (record { inputs = inputs_of s; regs = regs_of s })
+  Ok (record { inputs = inputs_of s; regs = regs_of s })

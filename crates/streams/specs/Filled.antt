@@ -2,17 +2,9 @@
 -- Assumes nothing.
 use Rattle.std.specs.Prelude.{ℕ, ◌≤◌, ◌<◌, true, ◌≡◌, List, length}
 use Rattle.std.specs.Counts.{IsPrefixLen}
-use Rattle.streams.specs.declared.Got.{Got}
-use Rattle.streams.specs.declared.Got.TheVariants.{Bytes, Ended, Failed}
 use Rattle.streams.specs.declared.Filled.{Filled}
 use Rattle.streams.specs.declared.Item.{Item}
 use Rattle.streams.specs.declared.Item.TheVariants.{Report, TooLong, Cut, End}
-
--- a read of up to n bytes that gave some
-abbrev pub Gave : Got → ℕ → Type 0
-Gave (Bytes k) n = (0 < k) × (k ≤ n)
-Gave Ended n = Unit {0}
-Gave Failed n = Unit {0}
 
 -- the bytes that came stand at the buffer's start; a reading that failed has not filled it
 pub record Fills (f : Filled) (buffer : List ℕ) : Type 0 where

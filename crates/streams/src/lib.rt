@@ -3,20 +3,12 @@
 #![tactic(auto)]
 
 ghost use Rattle.std.specs.Prelude.{◌≡◌, ◌≤◌, length};
-ghost use Rattle.streams.specs.Filled.{Gave, Fills, Passes, Follows, Stands};
+ghost use Rattle.streams.specs.Filled.{Fills, Passes, Follows, Stands};
 
 use lent::word32;
 use std::io::Read;
 
-// What one read gave.
-#[derive(Clone, Copy)]
-enum Got {
-    Bytes(usize),
-    Ended,
-    Failed,
-}
-
-// How many bytes came, and whether a read failed before all that were asked for had come.
+// How many bytes came, and whether a read failed before all that were asked for had come: both at once, so it is no Result.
 #[derive(Clone, Copy)]
 pub struct Filled {
     pub count: usize,
@@ -33,36 +25,25 @@ pub enum Item {
     End(bool),
 }
 
-// One read.
-fn read_some<R: Read>(reader: &mut R, buf: &mut [u8]) -> Got
-    ensures { Gave result (length buf.new) }
-{
-    match reader.read(buf) {
-        Err(_) => Got::Failed,
-        Ok(0) => Got::Ended,
-        Ok(count) => Got::Bytes(count),
-    }
-}
-
-fn came(count: usize, failed: bool) -> Filled
-    ensures { (result.count ≡ count) × (result.failed ≡ failed) }
-{
-    Filled { count, failed }
-}
-
 // Reads until the buffer is full, the input ends or a read fails.
 pub fn fill<R: Read>(reader: &mut R, buf: &mut [u8]) -> Filled
     ensures { Fills result buf.new }
 {
     let mut count = 0;
     while count < buf.len() {
-        match read_some(reader, &mut buf[count..]) {
-            Got::Bytes(more) => count += more,
-            Got::Ended => return came(count, false),
-            Got::Failed => return came(count, true),
+        match reader.read(&mut buf[count..]) {
+            Ok(0) => break,
+            Ok(more) => count += more,
+            Err(_) => return Filled {
+                count,
+                failed: true,
+            },
         }
     }
-    came(count, false)
+    Filled {
+        count,
+        failed: false,
+    }
 }
 
 // Reads so many bytes, or all up to the input's end or a read that fails, and keeps none. The buffer is the room for them.
@@ -71,20 +52,20 @@ fn skip<R: Read>(reader: &mut R, buf: &mut [u8], bytes: usize) -> Filled
 {
     let mut count = 0;
     while count < bytes {
-        let part = least(bytes - count, buf.len());
-        match read_some(reader, &mut buf[..part]) {
-            Got::Bytes(more) => count += more,
-            Got::Ended => return came(count, false),
-            Got::Failed => return came(count, true),
+        let part = buf.len().min(bytes - count);
+        match reader.read(&mut buf[..part]) {
+            Ok(0) => break,
+            Ok(some) => count += some,
+            Err(_) => return Filled {
+                count,
+                failed: true,
+            },
         }
     }
-    came(count, false)
-}
-
-fn least(a: usize, b: usize) -> usize
-    ensures { (result ≤ a) × (result ≤ b) }
-{
-    if a < b { a } else { b }
+    Filled {
+        count,
+        failed: false,
+    }
 }
 
 // The report of so many bytes that follows its length.
@@ -93,15 +74,13 @@ fn next_of<R: Read>(reader: &mut R, buf: &mut [u8], bytes: usize) -> Item
 {
     if buf.len() < bytes {
         let passed = skip(reader, buf, bytes);
-        let count = passed.count;
-        if count < bytes {
+        if passed.count < bytes {
             return Item::Cut(passed.failed);
         }
         return Item::TooLong;
     }
     let filled = fill(reader, &mut buf[..bytes]);
-    let count = filled.count;
-    if count < bytes {
+    if filled.count < bytes {
         return Item::Cut(filled.failed);
     }
     Item::Report(bytes)
@@ -113,11 +92,10 @@ pub fn next<R: Read>(reader: &mut R, buf: &mut [u8]) -> Item
 {
     let mut word = [0u8; 4];
     let filled = fill(reader, &mut word);
-    let count = filled.count;
-    if count == 0 {
+    if filled.count == 0 {
         return Item::End(filled.failed);
     }
-    if count < 4 {
+    if filled.count < 4 {
         return Item::Cut(filled.failed);
     }
     let bytes = word32(&word, 0);

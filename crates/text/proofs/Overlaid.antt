@@ -1,11 +1,15 @@
 -- Laws of text laid over a buffer.
 -- Assumes nothing.
-use Prim.Native.Nat.{ℕ, ◌+◌, ◌-◌, ◌^◌, ◌≤◌, ◌<◌, min}
+use Prim.Native.Nat.{ℕ, suc, ◌+◌, ◌-◌, ◌^◌, ◌≤◌, ◌<◌, min}
 use mathlib.Core.Path.{◌≡◌, refl, sym, ap, ap₂, ◌∙◌, subst}
 use mathlib.Core.Bool.{Bool, true, false}
 use mathlib.Core.List.{List, [], ◌∷◌, ◌++◌, append_assoc}
-use lib.ListN.{length, set, length-set, length-append}
+use lib.ListN.{length, take, drop, set, length-set, length-append}
 use lib.Seq.{set_out}
+use Rattle.std.proofs.lemmas.Slice.{put_mid-paste}
+use Rattle.std.proofs.lemmas.List.Edits.{sets, sets-eq, paste_all}
+use borrow.Rule.Slice.PartMut.{put_mid}
+use native.Mathlib.Numerals.{add-one}
 use lib.Dec.{leb}
 use borrow.Author.Tests.{leb-true, leb-false}
 use native.Mathlib.Omega.{arith}
@@ -47,6 +51,18 @@ pub overlay-past : (b : List ℕ) (i : ℕ) (t : List ℕ) → length b ≤ i �
 unfolding overlay
 overlay-past b i [] h = refl
 overlay-past b i (c ∷ t) h = ap (λ x. overlay x (i + 1) t) (set_out b i c h) ∙ overlay-past b (i + 1) t (omega arith)
+
+-- a text that has room, copied over its part of the buffer
+stored : (b : List ℕ) (i : ℕ) (t : List ℕ) → overlay b i t ≡ sets b i t
+unfolding overlay
+stored b i [] = refl
+stored b i (c ∷ t) = rw add-one (stored (set b i c) (suc i) t)
+
+pub overlay-copied : (b : List ℕ) (i : ℕ) (t : List ℕ) → i + length t ≤ length b → put_mid i (i + length t - i) b t ≡ overlay b i t
+overlay-copied b i t h =
+    let n : length t ≡ i + length t - i = omega arith in
+    let laid : overlay b i t ≡ take i b ++ (t ++ drop (i + length t) b) = stored b i t ∙ sets-eq t b i h ∙ append_assoc (take i b) t (drop (i + length t) b) in
+    put_mid-paste i (i + length t - i) b t t (length t) refl n refl ∙ paste_all b i t (length t) refl ∙ sym laid
 
 -- nothing, and one byte
 pub none : (b : List ℕ) (i : ℕ) → i < 2 ^ 64 → length b < 2 ^ 64 → Laid b i [] i b

@@ -21,11 +21,7 @@ fn lay_text(out: &mut [u8], at: usize, s: &[u8])
     requires { at + length s.now ≤ length out.old }
     ensures { out.new ≡ overlay out.old at s.now }
 {
-    let mut i = 0;
-    while i < s.len() {
-        out[at + i] = s[i];
-        i += 1;
-    }
+    out[at..at + s.len()].copy_from_slice(s);
 }
 
 // The bytes of a slice, each tested: the text may pass the buffer's end.
@@ -33,10 +29,8 @@ fn put_bytes(out: &mut [u8], at: usize, s: &[u8]) -> usize
     ensures { Laid out.old at s.now result out.new }
 {
     let mut next = at;
-    let mut i = 0;
-    while i < s.len() {
-        next = put_byte(out, next, s[i]);
-        i += 1;
+    for b in s {
+        next = put_byte(out, next, *b);
     }
     next
 }
@@ -97,9 +91,7 @@ fn put_hex(out: &mut [u8], at: usize, n: usize, value: u64) -> usize
     ensures { Laid out.old at (digits 16 n value []) result out.new }
 {
     let mut next = at;
-    let mut i = n;
-    while 0 < i {
-        i -= 1;
+    for i in (0..n).rev() {
         let high = value >> (4 * i);
         next = put_byte(out, next, digit(high % 16));
     }

@@ -2,7 +2,7 @@
 // Manual, whose names stand at the rows. It knows no codes, and neither registers' values nor memory.
 #![tactic(auto)]
 
-ghost use Rattle.std.specs.Prelude.{◌≡◌, ◌+◌, ◌^◌, ◌≤◌, ◌<◌, eqb, length};
+ghost use Rattle.std.specs.Prelude.{◌≡◌, ◌+◌, ◌-◌, ◌^◌, ◌≤◌, ◌<◌, eqb, length, None, Some, if◌then◌else◌};
 ghost use Rattle.std.specs.Int.Bits.{bit_and};
 ghost use Rattle.lent.specs.Little.{word16};
 ghost use Rattle.thumb.specs.Immediate as I;
@@ -13,7 +13,7 @@ use words::{Halfwords, bit, bits};
 
 // What an instruction does. Registers go by number, 13 for SP, 14 for LR, 15 for PC; a list of them has 16 bits; amounts are bytes, of any
 // number of words.
-#[derive(Clone, Copy)]
+#[derive(Clone, Copy, PartialEq, Eq)]
 pub enum Action {
     Push(u32),
     Pop(u32),
@@ -48,10 +48,8 @@ fn count(list: u32) -> u32
     ensures { result ≡ R.count list 16 }
 {
     let mut n = 0;
-    let mut i = 0;
-    while i < 16 {
+    for i in 0..16 {
         n += bits(list, i, 1);
-        i += 1;
     }
     n
 }
@@ -151,26 +149,35 @@ fn pop_one(w: u32) -> Action
     Action::Pop(1 << t)
 }
 
+// The amount that a modified constant is, unless it is unpredictable.
+fn modified(w: u32) -> Option<u64>
+    ensures { result ≡ (if I.unpredictable (I.imm12 w) then None else Some (I.expanded (I.imm12 w))) }
+{
+    let i = imm12(w);
+    if unpredictable(i) {
+        return None;
+    }
+    Some(expanded(i) as u64)
+}
+
 // SUB (SP minus immediate) T2.
 fn sub_modified(w: u32) -> Action
     ensures { result ≡ R.sub_t2 w }
 {
-    let i = imm12(w);
-    if unpredictable(i) {
-        return Action::Other;
+    match modified(w) {
+        Some(n) => Action::SubSp(n),
+        None => Action::Other,
     }
-    Action::SubSp(expanded(i) as u64)
 }
 
 // ADD (SP plus immediate) T3.
 fn add_modified(w: u32) -> Action
     ensures { result ≡ R.add_t3 w }
 {
-    let i = imm12(w);
-    if unpredictable(i) {
-        return Action::Other;
+    match modified(w) {
+        Some(n) => Action::AddSp(n),
+        None => Action::Other,
     }
-    Action::AddSp(expanded(i) as u64)
 }
 
 // D:Vd, the first of the d registers.
@@ -188,28 +195,36 @@ fn some_d(s: u32, n: u32) -> bool
     1 <= n && n <= 16 && s + n <= 32
 }
 
-// VPUSH T1.
-fn vpush(w: u32) -> Action
-    ensures { result ≡ R.vpush_t1 w }
+// The first and the last of the d registers, if there are any such.
+fn d_range(w: u32) -> Option<(u32, u32)>
+    ensures { result ≡ (if R.some_d (R.first_d w) (R.count_d w) then Some (R.first_d w, R.first_d w + R.count_d w - 1) else None) }
 {
     let s = first_d(w);
     let n = bits(w, 1, 7);
     if some_d(s, n) {
-        return Action::Vpush(s, s + n - 1);
+        return Some((s, s + n - 1));
     }
-    Action::Other
+    None
+}
+
+// VPUSH T1.
+fn vpush(w: u32) -> Action
+    ensures { result ≡ R.vpush_t1 w }
+{
+    match d_range(w) {
+        Some((s, e)) => Action::Vpush(s, e),
+        None => Action::Other,
+    }
 }
 
 // VPOP T1.
 fn vpop(w: u32) -> Action
     ensures { result ≡ R.vpop_t1 w }
 {
-    let s = first_d(w);
-    let n = bits(w, 1, 7);
-    if some_d(s, n) {
-        return Action::Vpop(s, s + n - 1);
+    match d_range(w) {
+        Some((s, e)) => Action::Vpop(s, e),
+        None => Action::Other,
     }
-    Action::Other
 }
 
 // STR (immediate) T4: SP and PC are unpredictable.

@@ -1,6 +1,6 @@
 -- The walk by turns is the walk: what holds wherever a loop begins a turn, how a turn keeps it, and what it says when the loop is left.
 -- Assumes nothing.
-use Rattle.std.specs.Prelude.{if◌then◌else◌}
+use Rattle.std.specs.Prelude.{if◌then◌else◌, Ok}
 use Prim.Native.Nat.{ℕ, zero, suc, ◌+◌, ◌<◌}
 use mathlib.Core.Path.{◌≡◌, refl, sym, ap, ◌∙◌}
 use mathlib.Core.Bool.{true, false}
@@ -11,7 +11,6 @@ use lib.Dec.{eqb}
 use lib.ListN.{length, drop, set, get_or, length-append, length-set}
 use lib.Seq.{drop-cons, set_at}
 use borrow.Author.Tests.{ne_eqb}
-use Rattle.words.specs.Answer.{ok}
 use Rattle.unwinding.specs.Trail.{Walker, FrameOf, Trail, stopped, listed, filled, next_frame, walk_from, walk}
 use Rattle.unwinding.specs.AsCoded.Turn.{Standing, Turn, Small, begun, gone}
 use Rattle.unwinding.proofs.Turns.{Turns, at-end, at-full, at-refusal, goes}
@@ -63,7 +62,7 @@ module _ (W : Walker) (frame_of : FrameOf W) where
   over left (goes c p f w) k o = absurd (let z : ◌≡◌ {A = ℕ} 0 1 = cc in omega arith)
 
   -- the frame, and then what is left from the next state
-  pub goes_on : (left : ℕ) (s : Standing W) (c : Caller) → s.end ≡ false → next_frame W frame_of (eqb s.frames 0) s.at ≡ ok c
+  pub goes_on : (left : ℕ) (s : Standing W) (c : Caller) → s.end ≡ false → next_frame W frame_of (eqb s.frames 0) s.at ≡ Ok c
       → rest_of (suc left) s ≡ listed W s.at c (rest_of left (gone W s c).next)
   unfolding walk_from
   goes_on left s c p w = rw (p, w, ne_eqb (s.frames + 1) 0 (λ h. omega arith))
@@ -71,7 +70,7 @@ module _ (W : Walker) (frame_of : FrameOf W) where
   -- a turn that goes on met neither the end nor a full list nor a refusal
   pub record Onward (room : ℕ) (s : Standing W) (r : Turn W) : Type 0 where
     pub caller : Caller
-    pub unwinds : next_frame W frame_of (eqb s.frames 0) s.at ≡ ok caller
+    pub unwinds : next_frame W frame_of (eqb s.frames 0) s.at ≡ Ok caller
     pub going : s.end ≡ false
     pub within : s.frames < room
     pub is : r ≡ gone W s caller

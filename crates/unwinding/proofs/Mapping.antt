@@ -1,7 +1,7 @@
 -- Codes with more beside them: where codes of one kind have codes of another as a part, and both are taken alike, so are their lists, their
 -- epilogues and a record's view, but for that part.
 -- Assumes nothing.
-use Rattle.std.specs.Prelude.{if◌then◌else◌}
+use Rattle.std.specs.Prelude.{if◌then◌else◌, Ok, Err}
 use Prim.Native.Nat.{ℕ, zero, suc, ◌+◌, ◌-◌}
 use mathlib.Core.Path.{◌≡◌, refl, sym, ap, ap₂, ◌∙◌}
 use mathlib.Core.List.{List, [], ◌∷◌, map}
@@ -10,7 +10,7 @@ use Rattle.words.specs.Units.{code_bytes}
 use Rattle.words.specs.declared.CodeBytes.{CodeBytes}
 use Rattle.words.specs.declared.Refusal.{Refusal}
 use Rattle.words.specs.declared.Refusal.TheVariants.{BadLayout}
-use Rattle.words.specs.Answer.{Res, ok, refuse, ◌>>=◌, ◌>>◌, need}
+use Rattle.words.specs.Answer.{Res, ◌>>=◌, ◌>>◌, need}
 use Rattle.unwinding.specs.CodeList.{Codes, total}
 use Rattle.unwinding.specs.Taking.{Taken, one, last, bad, Scan, follow, scan_from, scan, codes_at}
 use Rattle.unwinding.specs.Shape.{Shape, start_of}
@@ -19,19 +19,19 @@ use Rattle.unwinding.specs.declared.Scope.{Scope}
 
 -- an answer's value, by a function
 abbrev pub mapped : {A B : Type 0} → (A → B) → Res A → Res B
-mapped f (ok a) = ok (f a)
-mapped f (refuse r) = refuse r
+mapped f (Ok a) = Ok (f a)
+mapped f (Err r) = Err r
 
 -- two chains of answers are alike where each link is
 mapped-bind :
     {A B X Y : Type 0} (g : A → B) (h : X → Y) (x : Res A) (y : Res B) (k : A → Res X) (l : B → Res Y)
     → mapped g x ≡ y → ((a : A) → mapped h (k a) ≡ l (g a)) → mapped h (x >>= k) ≡ (y >>= l)
-mapped-bind g h (ok a) y k l e f = f a ∙ ap (λ z. z >>= l) e
-mapped-bind g h (refuse r) y k l e f = ap (λ z. z >>= l) e
+mapped-bind g h (Ok a) y k l e f = f a ∙ ap (λ z. z >>= l) e
+mapped-bind g h (Err r) y k l e f = ap (λ z. z >>= l) e
 
-mapped-need : {X Y : Type 0} (h : X → Y) (t u : Bool) (r : Refusal) (x : X) (y : Y) → t ≡ u → h x ≡ y → mapped h (need t r >> ok x) ≡ (need u r >> ok y)
-mapped-need h true u r x y e f = ap ok f ∙ ap (λ z. need z r >> ok y) e
-mapped-need h false u r x y e f = ap (λ z. need z r >> ok y) e
+mapped-need : {X Y : Type 0} (h : X → Y) (t u : Bool) (r : Refusal) (x : X) (y : Y) → t ≡ u → h x ≡ y → mapped h (need t r >> Ok x) ≡ (need u r >> Ok y)
+mapped-need h true u r x y e f = ap Ok f ∙ ap (λ z. need z r >> Ok y) e
+mapped-need h false u r x y e f = ap (λ z. need z r >> Ok y) e
 
 module _ {C D : Type 0} (f : D → C) where
   abbrev pub taken_of : Taken D → Taken C
@@ -69,13 +69,13 @@ module _ {C D : Type 0} (f : D → C) where
     scan-mapped s i = scan-from s 0 i.0
 
     pub codes-mapped : (s : List ℕ) (i : CodeBytes) → mapped codes_of (codes_at take bytes s i) ≡ codes_at take' bytes s i
-    codes-mapped s i = go (scan take bytes s i).ending ∙ ap (λ (x : Scan C). x.ending >>= λ n. ok (record { list = x.list; end_size = n })) (scan-mapped s i)
+    codes-mapped s i = go (scan take bytes s i).ending ∙ ap (λ (x : Scan C). x.ending >>= λ n. Ok (record { list = x.list; end_size = n })) (scan-mapped s i)
       where
         go :
             (x : Res ℕ)
-            → mapped codes_of (x >>= λ n. ok (record { list = (scan take bytes s i).list; end_size = n })) ≡ (x >>= λ n. ok (record { list = map f (scan take bytes s i).list; end_size = n }))
-        go (ok n) = refl
-        go (refuse r) = refl
+            → mapped codes_of (x >>= λ n. Ok (record { list = (scan take bytes s i).list; end_size = n })) ≡ (x >>= λ n. Ok (record { list = map f (scan take bytes s i).list; end_size = n }))
+        go (Ok n) = refl
+        go (Err r) = refl
 
   module _ (size : C → ℕ) (read : List ℕ → CodeBytes → Res (Codes D)) (read' : List ℕ → CodeBytes → Res (Codes C)) (alike : (s : List ℕ) (i : CodeBytes) → mapped codes_of (read s i) ≡ read' s i) where
     abbrev sized : D → ℕ
@@ -104,7 +104,7 @@ module _ {C D : Type 0} (f : D → C) where
     epilogues-mapped s (e ∷ es) =
         mapped-bind codes_of (map epilogue_of) (read s.codes e.index) _ _ _ (alike s.codes e.index)
         (λ c. mapped-bind (map epilogue_of) (map epilogue_of) (epilogues sized read s es) _ _ _ (epilogues-mapped s es)
-        (λ rest. ap (λ n. ok (record { start = start_of e.start s.span (n + c.end_size); size = n + c.end_size; condition = e.condition; codes = codes_of c } ∷ map epilogue_of rest)) (total-mapped c.list)))
+        (λ rest. ap (λ n. Ok (record { start = start_of e.start s.span (n + c.end_size); size = n + c.end_size; condition = e.condition; codes = codes_of c } ∷ map epilogue_of rest)) (total-mapped c.list)))
 
     pub view-mapped : (s : Shape) → mapped view_of (view sized read s) ≡ view size read' s
     unfolding view
@@ -120,8 +120,8 @@ module _ {C D : Type 0} (f : D → C) where
 
         last_step :
             (c : Codes D) (es : List (EpilogueOf D))
-            → mapped view_of (need (fits s.span (prologue c) es) BadLayout >> ok (record { codes = c; prologue = prologue c; epilogues = es }))
-            ≡ (need (fits s.span (prologue' c) (map epilogue_of es)) BadLayout >> ok (record { codes = codes_of c; prologue = prologue' c; epilogues = map epilogue_of es }))
+            → mapped view_of (need (fits s.span (prologue c) es) BadLayout >> Ok (record { codes = c; prologue = prologue c; epilogues = es }))
+            ≡ (need (fits s.span (prologue' c) (map epilogue_of es)) BadLayout >> Ok (record { codes = codes_of c; prologue = prologue' c; epilogues = map epilogue_of es }))
         last_step c es =
             let p : prologue c ≡ prologue' c = ap (λ n. if s.fragment then 0 else n) (total-mapped c.list) in
             mapped-need view_of _ _ BadLayout _ _

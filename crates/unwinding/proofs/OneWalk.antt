@@ -1,5 +1,6 @@
 -- Single frames leave one walk: two answers that follow the same ones and leave the rest of the list are one.
 -- Assumes nothing.
+use Rattle.std.specs.Prelude.{Ok}
 use Prim.Native.Nat.{ℕ, ◌+◌, ◌-◌, ◌≤◌, ◌<◌}
 use mathlib.Core.Path.{◌≡◌, refl, sym, ap, ◌∙◌, subst}
 use mathlib.Core.List.{List}
@@ -10,7 +11,6 @@ use lib.Dec.{ltb}
 use native.Mathlib.Omega.{arith}
 use borrow.Author.Tests.{ltb-true, ltb-false}
 use Rattle.words.specs.declared.Refusal.{Refusal}
-use Rattle.words.specs.declared.Verdict.TheVariants.{Given}
 use Rattle.unwinding.specs.Trail.{Walker}
 use Rattle.unwinding.specs.Singly.{Alone, Walked, WalkedAll, Untouched, reached, codes_run, Why, itself, uncovered, still, Stops, at-end, at-full, at-refusal, Onward, Follows}
 
@@ -42,7 +42,7 @@ module _ (W : Walker) (unwind : W.State → Alone W) where
     stop-one (at-refusal r e k w) (at-refusal r' e' k' w') = ap (refused_at g) (why-one w w')
 
     -- a walk that stops at g does not go on there
-    no-further : {room : ℕ} {s : Stop} (m : ℕ) → n < m → m ≤ room → (unwind g).verdict ≡ Given → (0 < n → Onward W unwind g) → Stops W unwind g n room s → ⊥
+    no-further : {room : ℕ} {s : Stop} (m : ℕ) → n < m → m ≤ room → (unwind g).verdict ≡ Ok tt → (0 < n → Onward W unwind g) → Stops W unwind g n room s → ⊥
     no-further m l h v o (at-end p e) = (o p).pc-on e
     no-further m l h v o (at-full e k) = omega arith
     no-further m l h v o (at-refusal r e k (itself q w)) = let z : ◌≡◌ {A = ℕ} 0 1 = cc in omega arith

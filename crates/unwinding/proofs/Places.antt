@@ -1,7 +1,7 @@
 -- Where the pc stands by its offset, and which codes are left to undo there: those of the instructions done in the prologue, all of
 -- them in the body, those of the instructions to come in an epilogue.
 -- Assumes nothing.
-use Rattle.std.specs.Prelude.{if◌then◌else◌}
+use Rattle.std.specs.Prelude.{if◌then◌else◌, Ok}
 use Prim.Native.Nat.{ℕ, ◌+◌, ◌-◌, ◌≤◌, ◌<◌, min, max}
 use mathlib.Core.Path.{◌≡◌, refl, ap, ◌∙◌}
 use mathlib.Core.Bool.{Bool, true, false, ◌&&◌, not}
@@ -12,7 +12,6 @@ use native.Mathlib.Omega.{arith}
 use borrow.Author.Tests.{lt-ltb, le-ltb, le-leb, lt-leb, ltb-true, ltb-false, leb-true}
 use Rattle.words.specs.declared.Place.{Place}
 use Rattle.words.specs.declared.Place.TheVariants.{Prologue, Body, Epilogue}
-use Rattle.words.specs.Answer.{ok}
 use Rattle.unwinding.specs.CodeList.{total}
 use Rattle.unwinding.specs.View.{EpilogueOf, View, Stretch, stretch, shared, inside, apart, all_apart, ascending, fits}
 use Rattle.unwinding.specs.Todo.{left, in_epilogue, in_epilogues, todo}
@@ -53,7 +52,7 @@ module _ {C : Type 0} (size : C → ℕ) where
   -- at an instruction boundary what is left is found
   pub left-boundary :
       (p : Place) (after n : ℕ) (skipped done : List C) → Sized size skipped → total size done + after ≡ n
-      → left size p after n (skipped ++ done) ≡ ok (record { place = p; codes = done })
+      → left size p after n (skipped ++ done) ≡ Ok (record { place = p; codes = done })
   unfolding left
   left-boundary p after n skipped done z h = rw (end_of-boundary size after n skipped done z h) refl
 
@@ -61,14 +60,14 @@ module _ {C : Type 0} (size : C → ℕ) (may : ℕ → Bool) where
   -- ---- in the prologue
   pub todo-prologue :
       (v : View C) (ahead done : List C) → v.codes.list ≡ ahead ++ done → Sized size ahead → total size done < v.prologue
-      → todo size may v (total size done) ≡ ok (record { place = Prologue; codes = done })
+      → todo size may v (total size done) ≡ Ok (record { place = Prologue; codes = done })
   unfolding todo
   todo-prologue v ahead done e p h =
       let q : total size done + 0 ≡ total size done = omega arith in
       rw (lt-ltb _ _ h, e) (left-boundary size Prologue 0 (total size done) ahead done p q)
 
   -- ---- in no epilogue
-  epilogues-none : (es : List (EpilogueOf C)) (o : ℕ) (cs : List C) → InNone o es → in_epilogues size may es o cs ≡ ok (record { place = Body; codes = cs })
+  epilogues-none : (es : List (EpilogueOf C)) (o : ℕ) (cs : List C) → InNone o es → in_epilogues size may es o cs ≡ Ok (record { place = Body; codes = cs })
   unfolding in_epilogues
   epilogues-none [] o cs h = refl
   epilogues-none (e ∷ es) o cs h = ap (λ t. if t then in_epilogue size may e o else in_epilogues size may es o cs) (out h.0) ∙ epilogues-none es o cs h.1
@@ -81,7 +80,7 @@ module _ {C : Type 0} (size : C → ℕ) (may : ℕ → Bool) where
           go true = le-ltb _ _ l
           go false = refl
 
-  pub todo-body : (v : View C) (o : ℕ) → v.prologue ≤ o → InNone o v.epilogues → todo size may v o ≡ ok (record { place = Body; codes = v.codes.list })
+  pub todo-body : (v : View C) (o : ℕ) → v.prologue ≤ o → InNone o v.epilogues → todo size may v o ≡ Ok (record { place = Body; codes = v.codes.list })
   unfolding todo
   todo-body v o h n = rw (le-ltb _ _ h) (epilogues-none v.epilogues o v.codes.list n)
 
@@ -89,7 +88,7 @@ module _ {C : Type 0} (size : C → ℕ) (may : ℕ → Bool) where
   pub epilogue-boundary :
       (e : EpilogueOf C) (o : ℕ) (done rest : List C) → e.codes.list ≡ done ++ rest → Sized size done → may e.condition ≡ true
       → total size rest + e.codes.end_size ≡ e.start + e.size - o
-      → in_epilogue size may e o ≡ ok (record { place = Epilogue; codes = rest })
+      → in_epilogue size may e o ≡ Ok (record { place = Epilogue; codes = rest })
   unfolding in_epilogue
   epilogue-boundary e o done rest split z c h =
       rw (split, left-boundary size Epilogue e.codes.end_size (e.start + e.size - o) done rest z h, c) refl
@@ -121,7 +120,7 @@ module _ {C : Type 0} (size : C → ℕ) (may : ℕ → Bool) where
       → Sized size done
       → ex.codes.list ≡ done ++ rest
       → total size done < ex.size
-      → todo size may v (ex.start + total size done) ≡ ok (record { place = Epilogue; codes = rest })
+      → todo size may v (ex.start + total size done) ≡ Ok (record { place = Epilogue; codes = rest })
   unfolding todo
   todo-epilogue {ex} span v done rest f m c z p e h =
       let o : ℕ = ex.start + total size done in

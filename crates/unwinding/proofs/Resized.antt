@@ -1,13 +1,12 @@
 -- A code list in which one code has a smaller size, on any machine: which ends of it are found where, what passes 6 and 7 still, and what is
 -- made of what is left to undo, where that does not tell the two codes apart.
 -- Assumes nothing.
-use Rattle.std.specs.Prelude.{if◌then◌else◌}
+use Rattle.std.specs.Prelude.{if◌then◌else◌, Ok, Err, Option, Some}
 use Prim.Native.Nat.{ℕ, ◌+◌, ◌-◌, ◌≤◌, ◌<◌, min, max}
 use mathlib.Core.Path.{◌≡◌, refl, sym, ap, ◌∙◌}
 use mathlib.Core.Logic.{◌⊎◌, inl, inr}
 use mathlib.Core.List.{List, [], ◌∷◌, ◌++◌, map}
 use mathlib.Core.Bool.{Bool, true, false, ◌&&◌, not}
-use mathlib.Core.Option.{Option, some}
 use lib.Dec.{leb, ltb, eqb}
 use lib.ListN.{length, length-append}
 use native.Mathlib.Omega.{arith}
@@ -17,7 +16,7 @@ use Rattle.words.specs.declared.CodeBytes.{CodeBytes}
 use Rattle.words.specs.declared.Place.{Place}
 use Rattle.words.specs.declared.Place.TheVariants.{Prologue, Body}
 use Rattle.words.specs.declared.Refusal.TheVariants.{InsideInstruction}
-use Rattle.words.specs.Answer.{Res, ok, refuse, ◌>>=◌, maybe}
+use Rattle.words.specs.Answer.{Res, ◌>>=◌, maybe}
 use Rattle.words.proofs.Answers.{bind-same}
 use Rattle.words.proofs.Tests.{both}
 use Rattle.unwinding.specs.CodeList.{Codes, total, end_of, run}
@@ -125,12 +124,12 @@ module _ {C : Type 0} {size : C → ℕ} {extra : ℕ} (r : Smaller size extra) 
   left-until : (p : Place) (o : ℕ) → o ≤ total size back → (c : List C) → left size p 0 o (c ++ (new ∷ back)) ≡ left size p 0 o (c ++ (old ∷ back))
   unfolding left
   left-until p o h c =
-      ap (λ x. maybe x (refuse InsideInstruction) (λ l. ok (record { place = p; codes = l })))
+      ap (λ x. maybe x (Err InsideInstruction) (λ l. Ok (record { place = p; codes = l })))
       (end_of-until new r.sized o h c ∙ sym (end_of-until old (omega (arith, r.larger, r.sized)) o h c))
 
   module _ {X : Type 0} (f : Todo C → Res X) (blind : Blind f) where
     abbrev made : Place → Option (List C) → Res X
-    made p x = maybe x (refuse InsideInstruction) (λ l. ok (record { place = p; codes = l })) >>= f
+    made p x = maybe x (Err InsideInstruction) (λ l. Ok (record { place = p; codes = l })) >>= f
 
     -- a list and one whose size has `extra` bytes more, by what holds behind their first codes
     made-step :
@@ -143,7 +142,7 @@ module _ {C : Type 0} {size : C → ℕ} {extra : ℕ} (r : Smaller size extra) 
       where
         go :
             (t : Bool) → eqb (total size (x ∷ xs) + 0) o ≡ t
-            → made p (if t then some (x ∷ xs) else end_of size 0 o xs) ≡ made p (if eqb (total size (y ∷ ys) + 0) (o + extra) then some (y ∷ ys) else end_of size 0 (o + extra) ys)
+            → made p (if t then Some (x ∷ xs) else end_of size 0 o xs) ≡ made p (if eqb (total size (y ∷ ys) + 0) (o + extra) then Some (y ∷ ys) else end_of size 0 (o + extra) ys)
         go true e =
             let q : total size (y ∷ ys) + 0 ≡ o + extra = omega (arith, k, eqb-true (total size (x ∷ xs) + 0) o e) in
             rw (eq-eqb _ _ q) same
@@ -192,9 +191,9 @@ module _ {C : Type 0} {size : C → ℕ} {extra : ℕ} (r : Smaller size extra) 
 
     -- it passes 6 and 7 still
     pub view-resized :
-        (read : List ℕ → CodeBytes → Res (Codes C)) (s : Shape) → read s.codes (code_bytes 0) ≡ ok c → epilogues size read s s.scopes ≡ ok v.epilogues → s.fragment ≡ at.fragment
+        (read : List ℕ → CodeBytes → Res (Codes C)) (s : Shape) → read s.codes (code_bytes 0) ≡ Ok c → epilogues size read s s.scopes ≡ Ok v.epilogues → s.fragment ≡ at.fragment
         → fits s.span v.prologue v.epilogues ≡ true
-        → view size read s ≡ ok resized
+        → view size read s ≡ Ok resized
     unfolding view
     view-resized read s first others t f =
         rw (first, others, t, prologue-less, fits-shorter s.span v.prologue (v.prologue - extra) v.epilogues (omega arith) f) refl
@@ -203,7 +202,7 @@ module _ {C : Type 0} {size : C → ℕ} {extra : ℕ} (r : Smaller size extra) 
       -- the last bytes of the prologue that it had are in no epilogue
       pub todo-freed :
           (span o : ℕ) → fits span v.prologue v.epilogues ≡ true → o < v.prologue → v.prologue ≤ o + extra
-          → todo size may resized o ≡ ok (record { place = Body; codes = c.list })
+          → todo size may resized o ≡ Ok (record { place = Body; codes = c.list })
       todo-freed span o f h k = todo-body size may resized o (omega arith) (none-early v.prologue o v.epilogues h (all_apart_lem span v f).prologue)
 
       module _ {X : Type 0} (f : Todo C → Res X) (blind : Blind f) where

@@ -1,7 +1,7 @@
 -- What holds of a walk where no frame lowers SP or runs more than so many codes: SP rises with each frame after the first, so that a walk
 -- below a top is short, and the sum of codes is small.
 -- Assumes nothing.
-use Rattle.std.specs.Prelude.{if◌then◌else◌}
+use Rattle.std.specs.Prelude.{if◌then◌else◌, Ok}
 use Prim.Native.Nat.{ℕ, ◌+◌, ◌*◌, ◌≤◌}
 use mathlib.Core.Path.{◌≡◌, refl}
 use mathlib.Core.Bool.{Bool, true, false}
@@ -9,23 +9,22 @@ use native.Mathlib.Omega.{arith}
 use lib.Dec.{eqb}
 use lib.ListN.{length}
 use borrow.Author.Tests.{eqb-true, eqb-false, not-true}
-use Rattle.words.specs.Answer.{ok}
 use Rattle.unwinding.specs.Trail.{Walker, FrameOf, Trail, next_frame, walk_from, walk}
 use Rattle.unwinding.specs.AsCoded.Turn.{Standing, Small, gone}
 use Rattle.unwinding.proofs.Thirteen.{next-was}
 use Rattle.unwinding.proofs.Walks.{Walks, no_room, refused, last, more, walks}
 
 pub record Bounded (W : Walker) (frame_of : FrameOf W) (most : ℕ) : Type 0 where
-  pub up : (first : Bool) (g : W.State) (c : W.Caller) → frame_of first g ≡ ok c → W.sp g ≤ W.sp (W.to c)
-  pub few : (first : Bool) (g : W.State) (c : W.Caller) → frame_of first g ≡ ok c → W.codes c ≤ most
+  pub up : (first : Bool) (g : W.State) (c : W.Caller) → frame_of first g ≡ Ok c → W.sp g ≤ W.sp (W.to c)
+  pub few : (first : Bool) (g : W.State) (c : W.Caller) → frame_of first g ≡ Ok c → W.codes c ≤ most
 
 module _ (W : Walker) (frame_of : FrameOf W) (most : ℕ) (bounded : Bounded W frame_of most) where
   open W use {State, sp, Caller, to}
 
-  pub next-few : (first : Bool) (g : State) (c : Caller) → next_frame W frame_of first g ≡ ok c → W.codes c ≤ most
+  pub next-few : (first : Bool) (g : State) (c : Caller) → next_frame W frame_of first g ≡ Ok c → W.codes c ≤ most
   next-few first g c h = bounded.few first g c (next-was W frame_of first g c h).0
 
-  pub next_up : (first : Bool) (g : State) (c : Caller) → next_frame W frame_of first g ≡ ok c → sp g + 1 ≤ sp (to c) + (if first then 1 else 0)
+  pub next_up : (first : Bool) (g : State) (c : Caller) → next_frame W frame_of first g ≡ Ok c → sp g + 1 ≤ sp (to c) + (if first then 1 else 0)
   next_up true g c h = omega (arith, bounded.up true g c (next-was W frame_of true g c h).0)
   next_up false g c h =
       let u = next-was W frame_of false g c h in
@@ -33,7 +32,7 @@ module _ (W : Walker) (frame_of : FrameOf W) (most : ℕ) (bounded : Bounded W f
       omega (arith, bounded.up false g c u.0)
 
   -- where a walk stands
-  pub small-on : (s : Standing W) (c : Caller) → Small W most s → next_frame W frame_of (eqb s.frames 0) s.at ≡ ok c → Small W most (gone W s c).next
+  pub small-on : (s : Standing W) (c : Caller) → Small W most s → next_frame W frame_of (eqb s.frames 0) s.at ≡ Ok c → Small W most (gone W s c).next
   small-on s c k h =
       record { rose = go (eqb s.frames 0) refl (next_up _ s.at c h); few = omega (arith, next-few (eqb s.frames 0) s.at c h, k.few) }
     where
@@ -51,7 +50,7 @@ module _ (W : Walker) (frame_of : FrameOf W) (most : ℕ) (bounded : Bounded W f
   pub walk-codes : (room : ℕ) (first : Bool) (g : State) → (walk_from W frame_of room first g).codes ≤ most * length (walk_from W frame_of room first g).frames
   walk-codes room first g = few-run (walks W frame_of room first g)
 
-  module _ (top : ℕ) (below_top : (first : Bool) (g : State) (c : Caller) → frame_of first g ≡ ok c → sp (to c) ≤ top) where
+  module _ (top : ℕ) (below_top : (first : Bool) (g : State) (c : Caller) → frame_of first g ≡ Ok c → sp (to c) ≤ top) where
     short : {room : ℕ} {first : Bool} {g : State} {w : Trail W} → sp g ≤ top → Walks W frame_of room first g w → length w.frames + sp g ≤ top + (if first then 1 else 0)
     short l no_room = omega arith
     short l (refused r e) = omega arith

@@ -1,5 +1,6 @@
 -- One code, and then the rest: what the code list at an index is, by the code that stands there.
 -- Assumes nothing.
+use Rattle.std.specs.Prelude.{Ok}
 use Prim.Native.Nat.{ℕ, zero, suc, ◌+◌, ◌-◌, ◌≤◌, ◌<◌}
 use mathlib.Core.Path.{◌≡◌, refl, sym, ap, ap₂, subst, ◌∙◌}
 use mathlib.Core.List.{List, [], ◌∷◌, ◌++◌}
@@ -8,7 +9,6 @@ use lib.Seq.{drop-drop, drop-append_seam}
 use native.Mathlib.Omega.{arith}
 use Rattle.words.specs.Units.{code_bytes}
 use Rattle.words.specs.declared.CodeBytes.{CodeBytes}
-use Rattle.words.specs.Answer.{ok}
 use Rattle.words.proofs.Answers.{bind_ok}
 use Rattle.unwinding.specs.CodeList.{Codes}
 use Rattle.unwinding.specs.Taking.{Taken, one, last, bad, Scan, nothing, follow, scan_from, scan, codes_at}
@@ -109,7 +109,7 @@ module _ {C : Type 0} {take : ℕ → List ℕ → Taken C} {bytes : ℕ → ℕ
   pub by-scan :
       (s : List ℕ) (P : ℕ → Scan C → Type 0)
       → ((i : ℕ) (c : C) (next : CodeBytes) (r : Scan C) → take i (drop i s) ≡ one c next → P next.0 r → P i (record { list = c ∷ r.list; ending = r.ending }))
-      → ((i n : ℕ) → take i (drop i s) ≡ last n → P i (record { list = []; ending = ok n }))
+      → ((i n : ℕ) → take i (drop i s) ≡ last n → P i (record { list = []; ending = Ok n }))
       → ((i : ℕ) (j : CodeBytes) → take i (drop i s) ≡ bad j → P i (nothing j))
       → (i : CodeBytes) → P i.0 (scan take bytes s i)
   by-scan s P f g h i = by_codes s (λ j. P j (scan take bytes s (code_bytes j))) here i.0
@@ -131,7 +131,7 @@ module _ {C : Type 0} {take : ℕ → List ℕ → Taken C} {bytes : ℕ → ℕ
   -- what holds of each code taken holds of each code of a list
   pub codes_all :
       (P : C → Type 0) (s : List ℕ) → ((i : ℕ) (c : C) (next : CodeBytes) → take i (drop i s) ≡ one c next → P c)
-      → (i : CodeBytes) (c : Codes C) → codes_at take bytes s i ≡ ok c → All P c.list
+      → (i : CodeBytes) (c : Codes C) → codes_at take bytes s i ≡ Ok c → All P c.list
   codes_all P s f i c h =
       let e = bind_ok (scan take bytes s i).ending _ c h in
       let z : record { list = (scan take bytes s i).list; end_size = e.0 } ≡ c = cc e.2 in

@@ -1,6 +1,7 @@
 -- A walk goes by single frames, leaves the rest of the list, and is cut short by less room: given that a later frame is the frame by itself
 -- but that 12 refuses a leaf.
 -- Assumes nothing.
+use Rattle.std.specs.Prelude.{Ok, Err}
 use Prim.Native.Nat.{ℕ, zero, suc, ◌+◌, ◌≤◌, ◌<◌}
 use mathlib.Core.Path.{◌≡◌, refl, sym, ap, ◌∙◌, subst}
 use mathlib.Core.Logic.{◌≢◌}
@@ -14,8 +15,7 @@ use borrow.Author.Tests.{eqb-true, eqb-false, ne_eqb, not-true, not-false}
 use Rattle.words.specs.declared.Place.TheVariants.{Leaf}
 use Rattle.words.specs.declared.Refusal.{Refusal}
 use Rattle.words.specs.declared.Refusal.TheVariants.{NoRecord, SpSame}
-use Rattle.words.specs.declared.Verdict.TheVariants.{Given}
-use Rattle.words.specs.Answer.{Res, ok, refuse}
+use Rattle.words.specs.Answer.{Res}
 use Rattle.unwinding.specs.Trail.{Walker, FrameOf, Trail, stopped, listed, next_frame, walk}
 use Rattle.unwinding.specs.Singly.{Alone, alone_of, walked_all, Untouched, Agree, Cut, reached, codes_run, Why, itself, uncovered, still, Stops, at-end, at-full, at-refusal, Onward, Follows}
 use Rattle.unwinding.proofs.Thirteen as Thirteen
@@ -43,9 +43,9 @@ less-room W frame_of g l l' h =
 
 -- ---- a frame after the first, and the same by itself
 pub data Later (W : Walker) (x y : Res W.Caller) : Type 0 where
-  refusal : (r : Refusal) → x ≡ refuse r → y ≡ refuse r → Later W x y
-  covered : (c : W.Caller) → W.place c ≢ Leaf → x ≡ ok c → y ≡ ok c → Later W x y
-  leaf : (c : W.Caller) → W.place c ≡ Leaf → x ≡ refuse NoRecord → y ≡ ok c → Later W x y
+  refusal : (r : Refusal) → x ≡ Err r → y ≡ Err r → Later W x y
+  covered : (c : W.Caller) → W.place c ≢ Leaf → x ≡ Ok c → y ≡ Ok c → Later W x y
+  leaf : (c : W.Caller) → W.place c ≡ Leaf → x ≡ Err NoRecord → y ≡ Ok c → Later W x y
 
 module _ (W : Walker) (frame_of : FrameOf W) (later : (g : W.State) → Later W (frame_of false g) (frame_of true g)) (unwind : W.State → Alone W) (alone : (g : W.State) → unwind g ≡ alone_of W g (frame_of true g)) where
   open W use {State, pc, sp, Caller, to, place, Frame, listed_as, Stop, ended, full, refused_at}
@@ -53,22 +53,22 @@ module _ (W : Walker) (frame_of : FrameOf W) (later : (g : W.State) → Later W 
   -- the frame at g, with m before it
   module _ (g : State) (m : ℕ) where
     record Goes (c : Caller) : Type 0 where
-      is : unwind g ≡ alone_of W g (ok c)
+      is : unwind g ≡ alone_of W g (Ok c)
       on : 0 < m → (place c ≢ Leaf) × (sp (to c) ≢ sp g)
 
-    next-given : (b : Bool) → eqb m 0 ≡ b → (c : Caller) → next_frame W frame_of b g ≡ ok c → Goes c
+    next-given : (b : Bool) → eqb m 0 ≡ b → (c : Caller) → next_frame W frame_of b g ≡ Ok c → Goes c
     next-given true z c q =
         record { is = alone g ∙ ap (alone_of W g) (Thirteen.next-was W frame_of true g c q).0; on = λ h. absurd (omega (arith, eqb-true m 0 z)) }
     next-given false z c q = let u = Thirteen.next-was W frame_of false g c q in go (later g) u.0 (eqb-false (sp (to c)) (sp g) (not-true (eqb (sp (to c)) (sp g)) u.1))
       where
-        go : Later W (frame_of false g) (frame_of true g) → frame_of false g ≡ ok c → sp (to c) ≢ sp g → Goes c
+        go : Later W (frame_of false g) (frame_of true g) → frame_of false g ≡ Ok c → sp (to c) ≢ sp g → Goes c
         go (refusal r x y) e k = absurd (let z : ◌≡◌ {A = ℕ} 0 1 = cc in omega arith)
         go (leaf d p x y) e k = absurd (let z : ◌≡◌ {A = ℕ} 0 1 = cc in omega arith)
         go (covered d p x y) e k =
             let same : d ≡ c = cc in
-            record { is = alone g ∙ ap (alone_of W g) (y ∙ ap ok same); on = λ h. (rw (← same) p, k) }
+            record { is = alone g ∙ ap (alone_of W g) (y ∙ ap Ok same); on = λ h. (rw (← same) p, k) }
 
-    next-refused : (b : Bool) → eqb m 0 ≡ b → {r : Refusal} → Thirteen.Next W frame_of b g (refuse r) → Why W unwind g m r
+    next-refused : (b : Bool) → eqb m 0 ≡ b → {r : Refusal} → Thirteen.Next W frame_of b g (Err r) → Why W unwind g m r
     next-refused true z (Thirteen.refused r e) = itself r (ap (λ v. v.verdict) (alone g ∙ ap (alone_of W g) e))
     next-refused true z (Thirteen.still c e p) = absurd (let z : ◌≡◌ {A = ℕ} 0 1 = cc in omega arith)
     next-refused false z (Thirteen.refused r e) = go (later g)
@@ -87,12 +87,12 @@ module _ (W : Walker) (frame_of : FrameOf W) (later : (g : W.State) → Later W 
         go (leaf d k x y) = absurd (let z : ◌≡◌ {A = ℕ} 0 1 = cc in omega arith)
         go (covered d k x y) =
             let same : d ≡ c = cc in
-            let is = alone g ∙ ap (alone_of W g) (y ∙ ap ok same) in
+            let is = alone g ∙ ap (alone_of W g) (y ∙ ap Ok same) in
             still (omega (arith, eqb-false m 0 z)) (ap (λ v. v.verdict) is) (rw (is, ← same) k) (rw is (eqb-true (sp (to c)) (sp g) (not-false (eqb (sp (to c)) (sp g)) p)))
 
   -- what is left of a walk from g, with m frames behind it
   record Left (m : ℕ) (g : State) (room : ℕ) (w : Trail W) : Type 0 where
-    given : (k : ℕ) → k < length w.frames → (unwind (reached W unwind g k)).verdict ≡ Given
+    given : (k : ℕ) → k < length w.frames → (unwind (reached W unwind g k)).verdict ≡ Ok tt
     shown : (k : ℕ) (none : Frame) → k < length w.frames → get_or w.frames k none ≡ listed_as (reached W unwind g k) (unwind (reached W unwind g k)).place
     codes : w.codes ≡ codes_run W unwind g (length w.frames)
     on : (k : ℕ) → 0 < m + k → k < length w.frames → Onward W unwind (reached W unwind g k)
@@ -111,7 +111,7 @@ module _ (W : Walker) (frame_of : FrameOf W) (later : (g : W.State) → Later W 
 
   -- a frame, and what is left from its caller
   module _ (m : ℕ) (g : State) (room : ℕ) (c : Caller) (w : Trail W) (pc-on : 0 < m → pc g ≢ 0) (here : Goes g m c) (rest : Left (suc m) (to c) room w) where
-    given : (k : ℕ) → k < suc (length w.frames) → (unwind (reached W unwind g k)).verdict ≡ Given
+    given : (k : ℕ) → k < suc (length w.frames) → (unwind (reached W unwind g k)).verdict ≡ Ok tt
     unfolding reached
     given zero l = ap (λ v. v.verdict) here.is
     given (suc k) l = rw here.is (rest.given k (omega arith))

@@ -1,11 +1,11 @@
 -- Skipping and the end of a code list: where the codes skipped and those that are left, with `after` bytes more, take all the bytes there
 -- are, what skipping finds is the end of the list that is left.
 -- Assumes nothing.
+use Rattle.std.specs.Prelude.{Option, None, Some}
 use Prim.Native.Nat.{ℕ, ◌+◌, ◌-◌, ◌≤◌, ◌<◌}
 use mathlib.Core.Path.{◌≡◌, refl, sym, ap, ◌∙◌}
 use mathlib.Core.List.{List, [], ◌∷◌}
 use mathlib.Core.Bool.{Bool, true, false}
-use mathlib.Core.Option.{Option, none, some}
 use lib.Dec.{leb, eqb}
 use lib.ListN.{drop}
 use native.Mathlib.Omega.{arith}
@@ -22,7 +22,7 @@ use Rattle.unwinding.proofs.Skipping.{skip-none, skip-one, skip-inside, skip-las
 
 -- the codes behind what was skipped
 abbrev pub codes_behind : {C : Type 0} → (take : ℕ → List ℕ → Taken C) → (bytes : ℕ → ℕ) → List ℕ → Option CodeBytes → Option (List C)
-codes_behind take bytes s x = maybe x none (λ p. some (scan take bytes s p).list)
+codes_behind take bytes s x = maybe x None (λ p. Some (scan take bytes s p).list)
 
 module _ {C : Type 0} (size : C → ℕ) {take : ℕ → List ℕ → Taken C} {bytes : ℕ → ℕ} (t : Takes take bytes) (s : List ℕ) where
   -- by what stands at an index
@@ -43,7 +43,7 @@ module _ {C : Type 0} (size : C → ℕ) {take : ℕ → List ℕ → Taken C} {
         ∙ sym (ap (codes_behind take bytes s) (ap (skip_at size take bytes s (code_bytes i)) z ∙ skip-none size t s i))
 
     -- nothing to take
-    ends-empty : (i k : ℕ) → (k ≡ 0 → ⊥) → codes i ≡ [] → skip_at size take bytes s (code_bytes i) k ≡ none → Ends i k
+    ends-empty : (i k : ℕ) → (k ≡ 0 → ⊥) → codes i ≡ [] → skip_at size take bytes s (code_bytes i) k ≡ None → Ends i k
     ends-empty i k z e q h =
         let u : total size (codes i) ≡ 0 = ap (total size) e ∙ total-empty size in
         let l : after ≡ n → ⊥ = λ p. z (omega arith) in
@@ -93,9 +93,9 @@ module _ {C : Type 0} (size : C → ℕ) {take : ℕ → List ℕ → Taken C} {
     skip-ends i k h = by_codes t s (λ j. (m : ℕ) → Ends j m) ends-here i.0 k h
 
   abbrev Same : ℕ → ℕ → Type 0
-  Same i k = (p : CodeBytes) → skip_at size take bytes s (code_bytes i) k ≡ some p → (scan take bytes s p).ending ≡ (scan take bytes s (code_bytes i)).ending
+  Same i k = (p : CodeBytes) → skip_at size take bytes s (code_bytes i) k ≡ Some p → (scan take bytes s p).ending ≡ (scan take bytes s (code_bytes i)).ending
 
-  never : (i k : ℕ) → skip_at size take bytes s (code_bytes i) k ≡ none → Same i k
+  never : (i k : ℕ) → skip_at size take bytes s (code_bytes i) k ≡ None → Same i k
   never i k e p q = absurd (let z : ◌≡◌ {A = ℕ} 0 1 = cc in omega arith)
 
   same_here : (i : ℕ) → ((c : C) (next : CodeBytes) → take i (drop i s) ≡ one c next → (m : ℕ) → Same next.0 m) → (k : ℕ) → Same i k
@@ -113,11 +113,11 @@ module _ {C : Type 0} (size : C → ℕ) {take : ℕ → List ℕ → Taken C} {
 
       start : (x : Bool) → eqb k 0 ≡ x → Same i k
       start true e p q =
-          let w : some (code_bytes i) ≡ some p = sym (ap (skip_at size take bytes s (code_bytes i)) (eqb-true k 0 e) ∙ skip-none size t s i) ∙ q in
+          let w : Some (code_bytes i) ≡ Some p = sym (ap (skip_at size take bytes s (code_bytes i)) (eqb-true k 0 e) ∙ skip-none size t s i) ∙ q in
           let v : code_bytes i ≡ p = cc in
           ap (λ x. (scan take bytes s x).ending) (sym v)
       start false e p q = by-taken (eqb-false k 0 e) (take i (drop i s)) refl p q
 
   -- what is skipped to ends as the whole does
-  pub skip-ending : (i : CodeBytes) (k : ℕ) (p : CodeBytes) → skip_at size take bytes s i k ≡ some p → (scan take bytes s p).ending ≡ (scan take bytes s i).ending
+  pub skip-ending : (i : CodeBytes) (k : ℕ) (p : CodeBytes) → skip_at size take bytes s i k ≡ Some p → (scan take bytes s p).ending ≡ (scan take bytes s i).ending
   skip-ending i k p e = by_codes t s (λ j. (m : ℕ) → Same j m) same_here i.0 k p e

@@ -1,10 +1,9 @@
 -- Skipping codes: one code, and then the rest.
 -- Assumes nothing.
-use Rattle.std.specs.Prelude.{if◌then◌else◌}
+use Rattle.std.specs.Prelude.{if◌then◌else◌, None, Some}
 use Prim.Native.Nat.{ℕ, zero, suc, ◌+◌, ◌-◌, ◌≤◌, ◌<◌}
 use mathlib.Core.Path.{◌≡◌, refl, sym, ap, ap₂, ◌∙◌}
 use mathlib.Core.List.{List, [], ◌∷◌}
-use mathlib.Core.Option.{none, some}
 use lib.ListN.{drop}
 use lib.Dec.{leb, eqb}
 use native.Mathlib.Omega.{arith}
@@ -19,8 +18,8 @@ module _ {C : Type 0} (size : C → ℕ) {take : ℕ → List ℕ → Taken C} {
   -- to go on after k bytes is to go on from further back
   skip-drop : (s : List ℕ) (a k n : ℕ) → skip_from size take bytes a s k n ≡ skip_from size take bytes (a + k) (drop k s) 0 n
   unfolding skip_from
-  skip-drop [] a zero n = ap (λ x. if eqb n 0 then some (code_bytes x) else none) (omega arith)
-  skip-drop [] a (suc k) n = ap (λ x. if eqb n 0 then some (code_bytes x) else none) (omega arith)
+  skip-drop [] a zero n = ap (λ x. if eqb n 0 then Some (code_bytes x) else None) (omega arith)
+  skip-drop [] a (suc k) n = ap (λ x. if eqb n 0 then Some (code_bytes x) else None) (omega arith)
   skip-drop (b ∷ s) a zero n = ap (λ x. skip_from size take bytes x (b ∷ s) 0 n) (omega arith)
   skip-drop (b ∷ s) a (suc k) n = skip-drop s (a + 1) k n ∙ ap (λ x. skip_from size take bytes x (drop k s) 0 n) (omega arith)
 
@@ -28,12 +27,12 @@ module _ {C : Type 0} (size : C → ℕ) {take : ℕ → List ℕ → Taken C} {
   skip_at_lem s i n = skip-drop s 0 i n ∙ ap (λ x. skip_from size take bytes x (drop i s) 0 n) (omega arith)
 
   -- no bytes: where it stands
-  pub skip-none : (s : List ℕ) (i : ℕ) → skip_at size take bytes s (code_bytes i) 0 ≡ some (code_bytes i)
+  pub skip-none : (s : List ℕ) (i : ℕ) → skip_at size take bytes s (code_bytes i) 0 ≡ Some (code_bytes i)
   unfolding skip_from
   skip-none s i = skip_at_lem s i 0 ∙ go (drop i s)
     where
-      go : (l : List ℕ) → skip_from size take bytes i l 0 0 ≡ some (code_bytes i)
-      go [] = ap (λ x. some (code_bytes x)) (omega arith)
+      go : (l : List ℕ) → skip_from size take bytes i l 0 0 ≡ Some (code_bytes i)
+      go [] = ap (λ x. Some (code_bytes x)) (omega arith)
       go (b ∷ l) = refl
 
   -- some bytes: over what stands there, and on from behind it
@@ -55,7 +54,7 @@ module _ {C : Type 0} (size : C → ℕ) {take : ℕ → List ℕ → Taken C} {
               skip-drop l (i + 1) (bytes b - 1) m
               ∙ ap₂ (λ x d. skip_from size take bytes x d 0 m) (omega (arith, w.some)) (drop-behind s i b (bytes b) l e w.some)
               ∙ sym (ap (λ x. skip_at size take bytes s x m) w.behind ∙ skip_at_lem s (i + bytes b) m) in
-              ap (λ x. if leb (size c) n then x else none) rest
+              ap (λ x. if leb (size c) n then x else None) rest
           by-taken (last z) q = refl
           by-taken (bad j) q = refl
 
@@ -67,11 +66,11 @@ module _ {C : Type 0} (size : C → ℕ) {take : ℕ → List ℕ → Taken C} {
     pub skip-one : {c : C} {next : CodeBytes} → take i (drop i s) ≡ one c next → size c ≤ n → skip_at size take bytes s (code_bytes i) n ≡ skip_at size take bytes s next (n - size c)
     skip-one {c} e l = skip-over e ∙ rw (le-leb (size c) n l) refl
 
-    pub skip-inside : {c : C} {next : CodeBytes} → take i (drop i s) ≡ one c next → n < size c → skip_at size take bytes s (code_bytes i) n ≡ none
+    pub skip-inside : {c : C} {next : CodeBytes} → take i (drop i s) ≡ one c next → n < size c → skip_at size take bytes s (code_bytes i) n ≡ None
     skip-inside {c} e l = skip-over e ∙ rw (lt-leb (size c) n l) refl
 
-    pub skip-last : {z : ℕ} → take i (drop i s) ≡ last z → skip_at size take bytes s (code_bytes i) n ≡ none
+    pub skip-last : {z : ℕ} → take i (drop i s) ≡ last z → skip_at size take bytes s (code_bytes i) n ≡ None
     skip-last e = skip-over e
 
-    pub skip-bad : {j : CodeBytes} → take i (drop i s) ≡ bad j → skip_at size take bytes s (code_bytes i) n ≡ none
+    pub skip-bad : {j : CodeBytes} → take i (drop i s) ≡ bad j → skip_at size take bytes s (code_bytes i) n ≡ None
     skip-bad e = skip-over e

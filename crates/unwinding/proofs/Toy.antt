@@ -1,7 +1,7 @@
 -- A machine of the simplest kind, to see the rules of place by computation: a code is a byte and is the size of its instruction, the list
 -- from an index is all that follows, and its end code stands for an instruction of 2 bytes. Epilogues of condition 1 execute.
 -- Assumes nothing.
-use Rattle.std.specs.Prelude.{if◌then◌else◌}
+use Rattle.std.specs.Prelude.{if◌then◌else◌, Ok, Err}
 use Prim.Native.Nat.{ℕ}
 use mathlib.Core.Path.{◌≡◌, refl}
 use mathlib.Core.List.{List, ◌∷◌, []}
@@ -13,7 +13,7 @@ use Rattle.words.specs.declared.CodeBytes.{CodeBytes}
 use Rattle.words.specs.declared.Place.{Place}
 use Rattle.words.specs.declared.Place.TheVariants.{Prologue, Body, Epilogue}
 use Rattle.words.specs.declared.Refusal.TheVariants.{BadCodes, BadLayout, InsideInstruction, Conditional}
-use Rattle.words.specs.Answer.{Res, ok, refuse, ◌>>=◌}
+use Rattle.words.specs.Answer.{Res, ◌>>=◌}
 use Rattle.unwinding.specs.CodeList.{Codes}
 use Rattle.unwinding.specs.Shape.{Shape}
 use Rattle.unwinding.specs.View.{view}
@@ -24,7 +24,7 @@ use Rattle.unwinding.specs.declared.Start.TheVariants.{From, Ending}
 use Rattle.unwinding.proofs.Opened.{opened}
 
 abbrev read : List ℕ → CodeBytes → Res (Codes ℕ)
-read s i = if leb i.0 (length s) then ok (record { list = drop i.0 s; end_size = 2 }) else refuse (BadCodes i)
+read s i = if leb i.0 (length s) then Ok (record { list = drop i.0 s; end_size = 2 }) else Err (BadCodes i)
 
 abbrev scope : Start → (condition index : ℕ) → Scope
 scope a c i = record { start = a; condition = c; index = code_bytes i }
@@ -42,7 +42,7 @@ abbrev at : Shape → ℕ → Res (Todo ℕ)
 at s o = view (λ c. c) read s >>= λ v. todo (λ c. c) may v o
 
 abbrev says : Place → List ℕ → Res (Todo ℕ)
-says p l = ok (record { place = p; codes = l })
+says p l = Ok (record { place = p; codes = l })
 
 -- a prologue of 8 bytes; an epilogue of 10 that ends with the function
 abbrev whole : Shape
@@ -57,7 +57,7 @@ prologue-2 : at whole 2 ≡ says Prologue (2 ∷ [])
 unfolding opened
 prologue-2 = refl
 
-prologue-4 : at whole 4 ≡ refuse InsideInstruction
+prologue-4 : at whole 4 ≡ Err InsideInstruction
 unfolding opened
 prologue-4 = refl
 
@@ -83,7 +83,7 @@ epilogue-38 : at whole 38 ≡ says Epilogue []
 unfolding opened
 epilogue-38 = refl
 
-epilogue-39 : at whole 39 ≡ refuse InsideInstruction
+epilogue-39 : at whole 39 ≡ Err InsideInstruction
 unfolding opened
 epilogue-39 = refl
 
@@ -93,11 +93,11 @@ unfolding opened
 fragment-0 = refl
 
 -- 10 only inside the conditional epilogue, and after 9
-conditional-30 : at (shape false (scope (From 30) 0 0 ∷ [])) 30 ≡ refuse Conditional
+conditional-30 : at (shape false (scope (From 30) 0 0 ∷ [])) 30 ≡ Err Conditional
 unfolding opened
 conditional-30 = refl
 
-conditional-31 : at (shape false (scope (From 30) 0 0 ∷ [])) 31 ≡ refuse InsideInstruction
+conditional-31 : at (shape false (scope (From 30) 0 0 ∷ [])) 31 ≡ Err InsideInstruction
 unfolding opened
 conditional-31 = refl
 
@@ -106,19 +106,19 @@ unfolding opened
 conditional-20 = refl
 
 -- 7: an epilogue past the end, one over the prologue, two that share, starts that do not ascend
-layout-past : at (shape false (scope (From 32) always 0 ∷ [])) 20 ≡ refuse BadLayout
+layout-past : at (shape false (scope (From 32) always 0 ∷ [])) 20 ≡ Err BadLayout
 unfolding opened
 layout-past = refl
 
-layout-prologue : at (shape false (scope (From 6) always 0 ∷ [])) 20 ≡ refuse BadLayout
+layout-prologue : at (shape false (scope (From 6) always 0 ∷ [])) 20 ≡ Err BadLayout
 unfolding opened
 layout-prologue = refl
 
-layout-shared : at (shape false (scope (From 10) always 0 ∷ scope (From 18) always 0 ∷ [])) 9 ≡ refuse BadLayout
+layout-shared : at (shape false (scope (From 10) always 0 ∷ scope (From 18) always 0 ∷ [])) 9 ≡ Err BadLayout
 unfolding opened
 layout-shared = refl
 
-layout-order : at (shape false (scope (From 30) always 0 ∷ scope (From 10) always 0 ∷ [])) 9 ≡ refuse BadLayout
+layout-order : at (shape false (scope (From 30) always 0 ∷ scope (From 10) always 0 ∷ [])) 9 ≡ Err BadLayout
 unfolding opened
 layout-order = refl
 
@@ -128,11 +128,11 @@ unfolding opened
 layout-touching = refl
 
 -- 6 of a later scope before 7 of an earlier one; 7 before 9
-order-6-7 : at (shape false (scope (From 32) always 0 ∷ scope (From 10) always 9 ∷ [])) 20 ≡ refuse (BadCodes (code_bytes 9))
+order-6-7 : at (shape false (scope (From 32) always 0 ∷ scope (From 10) always 9 ∷ [])) 20 ≡ Err (BadCodes (code_bytes 9))
 unfolding opened
 order-6-7 = refl
 
-order-7-9 : at (shape false (scope (From 32) always 0 ∷ [])) 4 ≡ refuse BadLayout
+order-7-9 : at (shape false (scope (From 32) always 0 ∷ [])) 4 ≡ Err BadLayout
 unfolding opened
 order-7-9 = refl
 
@@ -140,10 +140,10 @@ order-7-9 = refl
 abbrev short : List Scope → Shape
 short ss = record { span = 4; codes = 2 ∷ 4 ∷ 2 ∷ []; fragment = false; scopes = ss; handler = 0 }
 
-order-7-prologue : at (short []) 2 ≡ refuse BadLayout
+order-7-prologue : at (short []) 2 ≡ Err BadLayout
 unfolding opened
 order-7-prologue = refl
 
-order-6-prologue : at (short (scope (From 0) always 8 ∷ scope (From 0) always 9 ∷ [])) 2 ≡ refuse (BadCodes (code_bytes 8))
+order-6-prologue : at (short (scope (From 0) always 8 ∷ scope (From 0) always 9 ∷ [])) 2 ≡ Err (BadCodes (code_bytes 8))
 unfolding opened
 order-6-prologue = refl

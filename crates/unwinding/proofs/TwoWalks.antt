@@ -1,5 +1,6 @@
 -- Two walks beside each other: with more room, and over frames of which each that unwinds in the first unwinds so in the second.
 -- Assumes nothing.
+use Rattle.std.specs.Prelude.{Ok, Err}
 use Prim.Native.Nat.{ℕ, zero, suc, ◌≤◌, ◌<◌, min}
 use mathlib.Core.Path.{◌≡◌, refl, sym, ap, ◌∙◌}
 use mathlib.Core.List.{List, [], ◌∷◌, ◌++◌, append_assoc}
@@ -10,7 +11,6 @@ use native.Mathlib.Omega.{arith}
 use borrow.Author.Tests.{eq-eqb, ne_eqb}
 use Rattle.words.specs.Refusals.{number}
 use Rattle.words.specs.declared.Refusal.{Refusal}
-use Rattle.words.specs.Answer.{ok, refuse}
 use Rattle.unwinding.specs.Extent.{of_extent}
 use Rattle.unwinding.specs.Trail.{Walker, FrameOf, Trail, listed, filled, next_frame, walk_from}
 use Rattle.unwinding.proofs.Staying.{Stays, stays-given, stays-bind}
@@ -60,7 +60,7 @@ module _ (W : Walker) (frame_of : FrameOf W) where
   shorter room room' h first g = cut room' h (walks W frame_of room first g)
 
 -- ---- other frames
-module _ (W : Walker) (f f' : FrameOf W) (given : (first : Bool) (g : W.State) (c : W.Caller) → next_frame W f first g ≡ ok c → next_frame W f' first g ≡ ok c) where
+module _ (W : Walker) (f f' : FrameOf W) (given : (first : Bool) (g : W.State) (c : W.Caller) → next_frame W f first g ≡ Ok c → next_frame W f' first g ≡ Ok c) where
   open W use {State, place, listed_as, refused_at}
 
   -- the frames that a walk lists before it stops come first in the other
@@ -75,7 +75,7 @@ module _ (W : Walker) (f f' : FrameOf W) (given : (first : Bool) (g : W.State) (
   listed-stay room first g = begun-by (walks W f room first g)
 
   -- and all of it, where it does not stop by a refusal that may not stay
-  module _ (Kept : Refusal → Type 0) (kept : (first : Bool) (g : State) (r : Refusal) → next_frame W f first g ≡ refuse r → Kept r → next_frame W f' first g ≡ refuse r) where
+  module _ (Kept : Refusal → Type 0) (kept : (first : Bool) (g : State) (r : Refusal) → next_frame W f first g ≡ Err r → Kept r → next_frame W f' first g ≡ Err r) where
     stays : {room : ℕ} {first : Bool} {g : State} {w : Trail W} → ((h : State) (r : Refusal) → w.stop ≡ refused_at h r → Kept r) → Walks W f room first g w → Walks W f' room first g w
     stays k no_room = no_room
     stays {first} {g} k (refused r e) = refused r (kept first g r e (k g r refl))
@@ -98,7 +98,7 @@ module _ (W : Walker) (f f' : FrameOf W) (frame-stays : (first : Bool) (g : W.St
   unfolding next_frame
   next-stays first g = stays-bind (f first g) (f' first g) _ _ (frame-stays first g) (λ c p e. refl)
 
-  next-given : (first : Bool) (g : W.State) (c : W.Caller) → next_frame W f first g ≡ ok c → next_frame W f' first g ≡ ok c
+  next-given : (first : Bool) (g : W.State) (c : W.Caller) → next_frame W f first g ≡ Ok c → next_frame W f' first g ≡ Ok c
   next-given first g c = stays-given (next_frame W f first g) (next_frame W f' first g) c (next-stays first g)
 
   pub listed-wider : (room : ℕ) (first : Bool) (g : W.State) → Begins (walk_from W f room first g).frames (walk_from W f' room first g).frames

@@ -1,5 +1,6 @@
 -- A walk frame by frame: which next frames it meets and what it makes of them. Each walk is one of these, and each of these is the walk.
 -- Assumes nothing.
+use Rattle.std.specs.Prelude.{Ok, Err}
 use Prim.Native.Nat.{ℕ, zero, suc, ◌≤◌}
 use mathlib.Core.Path.{◌≡◌, refl, ap}
 use mathlib.Core.Logic.{◌≢◌}
@@ -9,7 +10,7 @@ use lib.Dec.{eqb}
 use native.Mathlib.Omega.{arith}
 use borrow.Author.Tests.{eqb-true, eqb-false, eq-eqb, ne_eqb}
 use Rattle.words.specs.declared.Refusal.{Refusal}
-use Rattle.words.specs.Answer.{Res, ok, refuse}
+use Rattle.words.specs.Answer.{Res}
 use Rattle.unwinding.specs.Trail.{Walker, FrameOf, Trail, stopped, listed, next_frame, walk_from}
 
 module _ (W : Walker) (frame_of : FrameOf W) where
@@ -17,9 +18,9 @@ module _ (W : Walker) (frame_of : FrameOf W) where
 
   pub data Walks : (room : ℕ) → (first : Bool) → State → Trail W → Type 0 where
     no_room : {first : Bool} {g : State} → Walks zero first g (stopped W full)
-    refused : {n : ℕ} {first : Bool} {g : State} (r : Refusal) → next_frame W frame_of first g ≡ refuse r → Walks (suc n) first g (stopped W (refused_at g r))
-    last : {n : ℕ} {first : Bool} {g : State} (c : Caller) → next_frame W frame_of first g ≡ ok c → pc (to c) ≡ 0 → Walks (suc n) first g (listed W g c (stopped W ended))
-    more : {n : ℕ} {first : Bool} {g : State} {w : Trail W} (c : Caller) → next_frame W frame_of first g ≡ ok c → pc (to c) ≢ 0 → Walks n false (to c) w → Walks (suc n) first g (listed W g c w)
+    refused : {n : ℕ} {first : Bool} {g : State} (r : Refusal) → next_frame W frame_of first g ≡ Err r → Walks (suc n) first g (stopped W (refused_at g r))
+    last : {n : ℕ} {first : Bool} {g : State} (c : Caller) → next_frame W frame_of first g ≡ Ok c → pc (to c) ≡ 0 → Walks (suc n) first g (listed W g c (stopped W ended))
+    more : {n : ℕ} {first : Bool} {g : State} {w : Trail W} (c : Caller) → next_frame W frame_of first g ≡ Ok c → pc (to c) ≢ 0 → Walks n false (to c) w → Walks (suc n) first g (listed W g c w)
 
   pub walks : (room : ℕ) (first : Bool) (g : State) → Walks room first g (walk_from W frame_of room first g)
   unfolding walk_from
@@ -29,13 +30,13 @@ module _ (W : Walker) (frame_of : FrameOf W) where
       Whole : Type 0
       Whole = Walks (suc n) first g (walk_from W frame_of (suc n) first g)
 
-      on : ((h : State) → Walks n false h (walk_from W frame_of n false h)) → (c : Caller) → next_frame W frame_of first g ≡ ok c → (b : Bool) → eqb (pc (to c)) 0 ≡ b → Whole
+      on : ((h : State) → Walks n false h (walk_from W frame_of n false h)) → (c : Caller) → next_frame W frame_of first g ≡ Ok c → (b : Bool) → eqb (pc (to c)) 0 ≡ b → Whole
       on below c e true q = rw (e, q) (last c e (eqb-true _ _ q))
       on below c e false q = rw (e, q) (more c e (eqb-false _ _ q) (below (to c)))
 
       go : ((h : State) → Walks n false h (walk_from W frame_of n false h)) → (x : Res Caller) → next_frame W frame_of first g ≡ x → Whole
-      go below (ok c) e = on below c e (eqb (pc (to c)) 0) refl
-      go below (refuse r) e = rw e (refused r e)
+      go below (Ok c) e = on below c e (eqb (pc (to c)) 0) refl
+      go below (Err r) e = rw e (refused r e)
 
   -- so that a chain of calls, frame by frame, is the walk
   pub walks-is : {room : ℕ} {first : Bool} {g : State} {w : Trail W} → Walks room first g w → walk_from W frame_of room first g ≡ w

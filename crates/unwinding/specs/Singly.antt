@@ -1,25 +1,23 @@
 -- Walks beside single frames, asked of any reader on any machine: its walk goes by its own single frames, from its first frame's answer
 -- (k = 0) on; it leaves records that it has not filled; and with less room it is cut short, never another.
-use Rattle.std.specs.Prelude.{ℕ, zero, suc, ◌+◌, ◌≤◌, ◌<◌, min, ◌≡◌, ◌≢◌, List, length, get_or, take, drop}
+use Rattle.std.specs.Prelude.{ℕ, zero, suc, ◌+◌, ◌≤◌, ◌<◌, min, ◌≡◌, ◌≢◌, List, length, get_or, take, drop, Ok, Err}
 use Rattle.words.specs.declared.Place.{Place}
 use Rattle.words.specs.declared.Place.TheVariants.{Leaf}
 use Rattle.words.specs.declared.Refusal.{Refusal}
 use Rattle.words.specs.declared.Refusal.TheVariants.{NoRecord, SpSame}
-use Rattle.words.specs.declared.Verdict.{Verdict}
-use Rattle.words.specs.declared.Verdict.TheVariants.{Given, Refused}
-use Rattle.words.specs.Answer.{Res, ok, refuse}
+use Rattle.words.specs.Answer.{Res}
 use Rattle.unwinding.specs.Trail.{Walker, Trail, filled}
 
 -- a frame by itself; a refused one gives back the state, with 0 codes and place leaf (RULES 6.7)
 pub record Alone (W : Walker) : Type 0 where
-  pub verdict : Verdict
+  pub verdict : Res (Unit {0})
   pub to : W.State
   pub place : Place
   pub codes : ℕ
 
 abbrev pub alone_of : (W : Walker) → W.State → Res W.Caller → Alone W
-alone_of W g (ok c) = record { verdict = Given; to = W.to c; place = W.place c; codes = W.codes c }
-alone_of W g (refuse r) = record { verdict = Refused r; to = g; place = Leaf; codes = 0 }
+alone_of W g (Ok c) = record { verdict = Ok tt; to = W.to c; place = W.place c; codes = W.codes c }
+alone_of W g (Err r) = record { verdict = Err r; to = g; place = Leaf; codes = 0 }
 
 -- a walk's answer, and with it the lent list as the walk leaves it
 pub record Walked (W : Walker) : Type 0 where
@@ -64,9 +62,9 @@ module _ (W : Walker) (unwind : W.State → Alone W) where
 
   -- why the frame at g, with n before it, is refused: by itself; a later one by 12, as a leaf, or by 13, if it does not change SP (RULES 7.6)
   pub data Why (g : State) (n : ℕ) : Refusal → Type 0 where
-    itself : (r : Refusal) → (unwind g).verdict ≡ Refused r → Why g n r
-    uncovered : 0 < n → (unwind g).verdict ≡ Given → (unwind g).place ≡ Leaf → Why g n NoRecord
-    still : 0 < n → (unwind g).verdict ≡ Given → (unwind g).place ≢ Leaf → sp (unwind g).to ≡ sp g → Why g n SpSame
+    itself : (r : Refusal) → (unwind g).verdict ≡ Err r → Why g n r
+    uncovered : 0 < n → (unwind g).verdict ≡ Ok tt → (unwind g).place ≡ Leaf → Why g n NoRecord
+    still : 0 < n → (unwind g).verdict ≡ Ok tt → (unwind g).place ≢ Leaf → sp (unwind g).to ≡ sp g → Why g n SpSame
 
   -- how a walk stops at g, with n frames listed
   pub data Stops (g : State) (n room : ℕ) : Stop → Type 0 where
@@ -82,7 +80,7 @@ module _ (W : Walker) (unwind : W.State → Alone W) where
 
   -- a walk goes by single frames
   pub record Follows (g : State) (room : ℕ) (w : WalkedAll W) : Type 0 where
-    pub given : (k : ℕ) → k < w.walked.frames → (unwind (reached g k)).verdict ≡ Given
+    pub given : (k : ℕ) → k < w.walked.frames → (unwind (reached g k)).verdict ≡ Ok tt
     pub shown : (k : ℕ) (none : Frame) → k < w.walked.frames → get_or w.list k none ≡ listed_as (reached g k) (unwind (reached g k)).place
     pub codes : w.walked.codes ≡ codes_run g w.walked.frames
     pub on : (k : ℕ) → 0 < k → k < w.walked.frames → Onward (reached g k)

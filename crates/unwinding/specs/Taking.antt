@@ -1,9 +1,9 @@
 -- Codes in code bytes, on any machine: one code, and the list from an index on up to an end code, or refusal 6 (RULES 3.5, 3.8).
-use Rattle.std.specs.Prelude.{ℕ, zero, suc, ◌+◌, ◌-◌, List, [], ◌∷◌}
+use Rattle.std.specs.Prelude.{ℕ, zero, suc, ◌+◌, ◌-◌, List, [], ◌∷◌, Ok, Err}
 use Rattle.words.specs.declared.CodeBytes.{CodeBytes}
 use Rattle.words.specs.declared.Refusal.TheVariants.{BadCodes}
 use Rattle.words.specs.Units.{code_bytes}
-use Rattle.words.specs.Answer.{Res, ok, refuse, ◌>>=◌}
+use Rattle.words.specs.Answer.{Res, ◌>>=◌}
 use Rattle.unwinding.specs.CodeList.{Codes}
 
 -- what stands at the front of code bytes
@@ -21,11 +21,11 @@ pub record Scan (C : Type 0) : Type 0 where
   pub ending : Res ℕ
 
 abbrev pub nothing : {C : Type 0} → CodeBytes → Scan C
-nothing i = record { list = []; ending = refuse (BadCodes i) }
+nothing i = record { list = []; ending = Err (BadCodes i) }
 
 abbrev pub follow : {C : Type 0} → Taken C → (rest : CodeBytes → Scan C) → Scan C
 follow (one c next) rest = let r = rest next in record { list = c ∷ r.list; ending = r.ending }
-follow (last n) rest = record { list = []; ending = ok n }
+follow (last n) rest = record { list = []; ending = Ok n }
 follow (bad i) rest = nothing i
 
 -- a machine takes the code at the front of the bytes that are left, the first of which has index `at`, and knows by its first byte how
@@ -41,4 +41,4 @@ module _ {C : Type 0} (take : (at : ℕ) → (left : List ℕ) → Taken C) (byt
   scan s i = scan_from 0 s i.0
 
   abbrev pub codes_at : List ℕ → CodeBytes → Res (Codes C)
-  codes_at s i = (scan s i).ending >>= λ n. ok (record { list = (scan s i).list; end_size = n })
+  codes_at s i = (scan s i).ending >>= λ n. Ok (record { list = (scan s i).list; end_size = n })

@@ -1,10 +1,10 @@
 -- The walk, over any machine's frame: frame after frame, each listed when it is unwound, up to an end, a full list or a refusal (RULES 7.1
 -- to 7.7).
-use Rattle.std.specs.Prelude.{ℕ, zero, suc, ◌+◌, List, [], ◌∷◌, ◌++◌, Bool, true, false, ◌||◌, not, length, drop, eqb, if◌then◌else◌}
+use Rattle.std.specs.Prelude.{ℕ, zero, suc, ◌+◌, List, [], ◌∷◌, ◌++◌, Bool, true, false, ◌||◌, not, length, drop, eqb, if◌then◌else◌, Ok}
 use Rattle.words.specs.declared.Place.{Place}
 use Rattle.words.specs.declared.Refusal.{Refusal}
 use Rattle.words.specs.declared.Refusal.TheVariants.{SpSame}
-use Rattle.words.specs.Answer.{Res, ok, ◌>>=◌, ◌>>◌, need, either}
+use Rattle.words.specs.Answer.{Res, ◌>>=◌, ◌>>◌, need, either}
 
 pub record Walker : Type 1 where
   -- a machine's state, with a pc and an SP
@@ -54,7 +54,7 @@ module _ (W : Walker) where
     next_frame first g = do
       c ← frame_of first g
       need (first || not (eqb (sp (to c)) (sp g))) SpSame
-      ok c
+      Ok c
 
     -- the walk from this state, with room for so many more records
     unfoldable pub walk_from : (room : ℕ) → (first : Bool) → State → Trail W

@@ -1,9 +1,9 @@
 -- A record that passes 6 and 7: its codes from index 0, its prologue's size (RULES 5.3) and its epilogues (RULES 5.4).
-use Rattle.std.specs.Prelude.{ℕ, ◌+◌, min, max, List, [], ◌∷◌, map, Bool, true, ◌&&◌, not, leb, ltb, if◌then◌else◌}
+use Rattle.std.specs.Prelude.{ℕ, ◌+◌, min, max, List, [], ◌∷◌, map, Bool, true, ◌&&◌, not, leb, ltb, if◌then◌else◌, Ok}
 use Rattle.words.specs.declared.CodeBytes.{CodeBytes}
 use Rattle.words.specs.Units.{code_bytes}
 use Rattle.words.specs.declared.Refusal.TheVariants.{BadLayout}
-use Rattle.words.specs.Answer.{Res, ok, ◌>>=◌, ◌>>◌, need}
+use Rattle.words.specs.Answer.{Res, ◌>>=◌, ◌>>◌, need}
 use Rattle.unwinding.specs.CodeList.{Codes, total}
 use Rattle.unwinding.specs.Shape.{Shape, start_of}
 use Rattle.unwinding.specs.declared.Scope.{Scope}
@@ -58,12 +58,12 @@ fits span p es =
 -- a machine's codes have sizes, and are read from code bytes at an index, or refused by 6
 module _ {C : Type 0} (size : C → ℕ) (read : List ℕ → CodeBytes → Res (Codes C)) where
   unfoldable pub epilogues : Shape → List Scope → Res (List (EpilogueOf C))
-  epilogues s [] = ok []
+  epilogues s [] = Ok []
   epilogues s (e ∷ es) = do
     c ← read s.codes e.index
     rest ← epilogues s es
     let n = total size c.list + c.end_size
-    ok (record { start = start_of e.start s.span n; size = n; condition = e.condition; codes = c } ∷ rest)
+    Ok (record { start = start_of e.start s.span n; size = n; condition = e.condition; codes = c } ∷ rest)
 
   -- 6 before 7: every code list is read before the layout is looked at (RULES 9.54). The end code adds nothing to a prologue (RULES 3.4)
   unfoldable pub view : Shape → Res (View C)
@@ -72,4 +72,4 @@ module _ {C : Type 0} (size : C → ℕ) (read : List ℕ → CodeBytes → Res 
     es ← epilogues s s.scopes
     let p = if s.fragment then 0 else total size c.list
     need (fits s.span p es) BadLayout
-    ok (record { codes = c; prologue = p; epilogues = es })
+    Ok (record { codes = c; prologue = p; epilogues = es })

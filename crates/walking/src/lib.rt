@@ -8,12 +8,12 @@ ghost use Rattle.codes.specs.AsCoded.Rows.{row_numbers};
 ghost use Rattle.machine.specs.AsCoded.Answers.{regs};
 ghost use Rattle.frame.specs.AsCoded.InPlace.{came_to};
 ghost use Rattle.walking.specs.AsCoded.Turn.{begun, turn_of, Small};
-ghost use Rattle.walking.specs.AsCoded.InPlace.{stands, halted_in, gone_in, SmallIn, Goes};
+ghost use Rattle.walking.specs.AsCoded.InPlace.{stands, gone_in, SmallIn, Goes};
 
 use frame::Came;
 use machine::Regs;
 use pdata::Checked;
-use words::{Place, Refusal, Verdict};
+use words::{Place, Refusal};
 
 // What is listed of a frame (RULES 7.2); bit 0 of its pc is 0.
 #[derive(Clone, Copy)]
@@ -58,12 +58,9 @@ pub struct Standing {
     pub codes: usize,
 }
 
-// What a turn in place does: if it goes on, the frame to list and where the walk stands then; if not, why it stops, and the lent registers
-// do not count.
+// What a turn in place that goes on comes to: the frame to list, and where the walk stands then.
 #[derive(Clone, Copy)]
 pub struct Going {
-    pub on: bool,
-    pub stop: Stop,
     pub frame: Frame,
     pub next: Standing,
 }
@@ -80,8 +77,6 @@ struct State {
 
 #[derive(Clone, Copy)]
 struct Turn {
-    on: bool,
-    stop: Stop,
     frame: Frame,
     next: State,
 }
@@ -116,50 +111,17 @@ fn next_frame(
     sp: u32,
     lr: u32,
     pc: u32,
-) -> Came
+) -> Result<Came, Refusal>
     requires { (t.now ≡ row_numbers) × (c ≡ checked_of (inputs image pdata.now rva xdata.now base stack.now)) }
     ensures { came_to result r.new d.new ≡ spec_next_frame first (inputs image pdata.now rva xdata.now base stack.now) (regs r.old sp lr pc d.old) }
 {
     let u = frame::frame_in(
         t, first, c, image, pdata, rva, xdata, base, stack, r, d, sp, lr, pc,
-    );
-    if first {
-        return u;
+    )?;
+    if !first && u.sp == sp {
+        return Err(Refusal::SpSame);
     }
-    let v = u.verdict;
-    match v {
-        Verdict::Refused(_) => u,
-        Verdict::Given => {
-            if u.sp == sp {
-                Came {
-                    verdict: Verdict::Refused(Refusal::SpSame),
-                    sp,
-                    lr,
-                    place: Place::Leaf,
-                    handler: 0,
-                    codes: 0,
-                }
-            } else {
-                u
-            }
-        }
-    }
-}
-
-// A turn that stops the walk.
-fn halt(s: Standing, stop: Stop) -> Going
-    ensures { result ≡ halted_in s stop }
-{
-    Going {
-        on: false,
-        stop,
-        frame: Frame {
-            pc: words::even(s.pc),
-            sp: s.sp,
-            place: Place::Leaf,
-        },
-        next: s,
-    }
+    Ok(u)
 }
 
 // A turn that lists the frame and goes on to its caller. The sums fit: SP rises with each frame after the first, and is below 2^32.
@@ -170,8 +132,6 @@ fn advance(s: Standing, u: Came) -> Going
     let place = u.place;
     let pc = words::even(u.lr);
     Going {
-        on: true,
-        stop: Stop::Full,
         frame: Frame {
             pc: words::even(s.pc),
             sp: s.sp,
@@ -188,7 +148,8 @@ fn advance(s: Standing, u: Came) -> Going
     }
 }
 
-// One turn in place, in a list with room for so many records.
+// One turn in place, in a list with room for so many records: how it goes on, or why the walk stops, and then the lent registers do not
+// count.
 pub fn turn_in(
     t: &[u8; 256],
     c: Checked,
@@ -202,18 +163,18 @@ pub fn turn_in(
     d: &mut [u64; 32],
     s: Standing,
     room: usize,
-) -> Going
+) -> Result<Going, Stop>
     requires { (t.now ≡ row_numbers) × (c ≡ checked_of (inputs image pdata.now rva xdata.now base stack.now)) × SmallIn (stands s r.old d.old) }
     ensures { Goes (inputs image pdata.now rva xdata.now base stack.now) room (stands s r.old d.old) result r.new d.new }
 {
     if s.end {
-        return halt(s, Stop::End);
+        return Err(Stop::End);
     }
     let at = s.frames;
     if room <= at {
-        return halt(s, Stop::Full);
+        return Err(Stop::Full);
     }
-    let u = next_frame(
+    let came = next_frame(
         t,
         at == 0,
         c,
@@ -229,10 +190,9 @@ pub fn turn_in(
         s.lr,
         s.pc,
     );
-    let v = u.verdict;
-    match v {
-        Verdict::Refused(why) => halt(s, Stop::Refused(why, words::even(s.pc))),
-        Verdict::Given => advance(s, u),
+    match came {
+        Err(why) => Err(Stop::Refused(why, words::even(s.pc))),
+        Ok(u) => Ok(advance(s, u)),
     }
 }
 
@@ -260,7 +220,7 @@ fn step(
     stack: &[u8],
     s: State,
     room: usize,
-) -> Turn
+) -> Result<Turn, Stop>
     requires { (s.checked ≡ checked_of (inputs image pdata.now rva xdata.now base stack.now)) × Small s }
     ensures { result ≡ turn_of (inputs image pdata.now rva xdata.now base stack.now) room s }
 {
@@ -282,37 +242,24 @@ fn step(
         &mut d,
         stand(g, s.end, s.frames, s.codes),
         room,
-    );
-    let stop = x.stop;
-    let frame = x.frame;
+    )?;
     let n = x.next;
-    if x.on {
-        let regs = Regs {
-            r,
-            sp: n.sp,
-            lr: n.lr,
-            pc: n.pc,
-            d,
-        };
-        return Turn {
-            on: true,
-            stop,
-            frame,
-            next: State {
-                checked,
-                regs,
-                end: n.end,
-                frames: n.frames,
-                codes: n.codes,
+    Ok(Turn {
+        frame: x.frame,
+        next: State {
+            checked,
+            regs: Regs {
+                r,
+                sp: n.sp,
+                lr: n.lr,
+                pc: n.pc,
+                d,
             },
-        };
-    }
-    Turn {
-        on: false,
-        stop,
-        frame,
-        next: s,
-    }
+            end: n.end,
+            frames: n.frames,
+            codes: n.codes,
+        },
+    })
 }
 
 // Fills one record of the list; the others stay (RULES 7.2).
@@ -338,16 +285,19 @@ pub fn walk(
 {
     let mut s = begin(pdata, rva, xdata, base, stack, g);
     loop {
-        let t = step(image, pdata, rva, xdata, base, stack, s, list.len());
-        if !t.on {
-            return Walked {
-                stop: t.stop,
-                frames: s.frames,
-                codes: s.codes,
-            };
+        match step(image, pdata, rva, xdata, base, stack, s, list.len()) {
+            Err(stop) => {
+                return Walked {
+                    stop,
+                    frames: s.frames,
+                    codes: s.codes,
+                };
+            }
+            Ok(t) => {
+                put(list, s.frames, t.frame);
+                s = t.next;
+            }
         }
-        put(list, s.frames, t.frame);
-        s = t.next;
     }
 }
 

@@ -1,9 +1,7 @@
 -- The number of each refusal, R for that of RULES 9.R, and 0 where nothing is refused.
-use Rattle.std.specs.Prelude.{ℕ}
+use Rattle.std.specs.Prelude.{ℕ, Result, Ok, Err}
 use Rattle.words.specs.declared.Refusal.{Refusal}
 use Rattle.words.specs.declared.Refusal.TheVariants.{UnfitInput, PcBelowBase, StartsNotAscending, Reserved, OutsideXdata, BadCodes, BadLayout, BadStack, InsideInstruction, Conditional, SpFell, NoRecord, SpSame, UnfitReport}
-use Rattle.words.specs.declared.Verdict.{Verdict}
-use Rattle.words.specs.declared.Verdict.TheVariants.{Given, Refused}
 
 abbrev pub number : Refusal → ℕ
 number UnfitInput = 1
@@ -21,6 +19,6 @@ number NoRecord = 12
 number SpSame = 13
 number UnfitReport = 14
 
-abbrev pub verdict_number : Verdict → ℕ
-verdict_number Given = 0
-verdict_number (Refused r) = number r
+abbrev pub verdict_number : {A : Type 0} → Result A Refusal → ℕ
+verdict_number (Ok a) = 0
+verdict_number (Err r) = number r

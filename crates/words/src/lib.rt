@@ -52,13 +52,6 @@ pub enum Refusal {
     UnfitReport,
 }
 
-// Whether an operation gave its answer.
-#[derive(Clone, Copy)]
-pub enum Verdict {
-    Given,
-    Refused(Refusal),
-}
-
 // Where a pc stands in its function.
 #[derive(Clone, Copy)]
 pub enum Place {
@@ -68,6 +61,9 @@ pub enum Place {
     Epilogue,
 }
 
+// The bits of a word.
+const WHOLE: u32 = 32;
+
 // `width` bits of a word from bit `low` up.
 pub fn bits(word: u32, low: u32, width: u32) -> u32
     ensures { (result ≡ bits_of low width word) × (result < 2 ^ width) }
@@ -76,7 +72,7 @@ pub fn bits(word: u32, low: u32, width: u32) -> u32
         return 0;
     }
     let high = word >> low;
-    if 32 <= width {
+    if WHOLE <= width {
         return high;
     }
     high % (1 << width)
@@ -138,12 +134,12 @@ pub fn number(r: Refusal) -> u32
     }
 }
 
-// The number of a verdict: 0 where nothing is refused.
-pub fn verdict_number(v: Verdict) -> u32
-    ensures { result ≡ spec_verdict_number v }
+// The number of an answer: 0 where nothing is refused.
+pub fn verdict_number<T: Copy>(answer: Result<T, Refusal>) -> u32
+    ensures { result ≡ spec_verdict_number answer }
 {
-    match v {
-        Verdict::Given => 0,
-        Verdict::Refused(r) => number(r),
+    match answer {
+        Ok(_) => 0,
+        Err(r) => number(r),
     }
 }

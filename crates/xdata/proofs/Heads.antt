@@ -1,6 +1,6 @@
 -- The head and the size of an .xdata record, by what its tests say; a head that is given is small.
 -- Assumes nothing.
-use Rattle.std.specs.Prelude.{if◌then◌else◌}
+use Rattle.std.specs.Prelude.{if◌then◌else◌, Ok, Err}
 use Prim.Native.Nat.{ℕ, ◌+◌, ◌-◌, ◌*◌, ◌%◌, ◌^◌, ◌<◌, ◌≤◌}
 use mathlib.Core.Path.{◌≡◌, refl, sym, ap, ◌∙◌}
 use mathlib.Core.Bool.{Bool, true, false}
@@ -11,23 +11,21 @@ use Rattle.words.specs.Bits.{bits}
 use Rattle.lent.specs.Lent.{Lent, holds, word_at}
 use Rattle.words.specs.declared.Refusal.{Refusal}
 use Rattle.words.specs.declared.Refusal.TheVariants.{UnfitInput, Reserved, OutsideXdata}
-use Rattle.words.specs.declared.Verdict.TheVariants.{Given, Refused}
-use Rattle.words.specs.Answer.{Res, ok, refuse, need, ◌>>◌, ◌>>=◌}
+use Rattle.words.specs.Answer.{Res, need, ◌>>◌, ◌>>=◌}
 use Rattle.xdata.specs.Xdata.{fit_xdata, X, E, record_bytes, long_head, short_head, head_at, xdata_size}
-use Rattle.xdata.specs.AsCoded.Heads.{head_read, whole_record, long_record}
+use Rattle.xdata.specs.AsCoded.Heads.{whole_record, long_record}
 use Rattle.xdata.specs.declared.Head.{Head}
-use Rattle.xdata.specs.declared.HeadRead.{HeadRead}
 
 -- the head of a record whose first word is lent, by that word
 unfoldable head_by : Lent → (at word : ℕ) → Res Head
 head_by x a w =
-    need (eqb (bits 18 2 w) 0) Reserved >> ((if eqb (bits 23 9 w) 0 then long_head x a w else ok (short_head w)) >>= λ h. whole_record x a h)
+    need (eqb (bits 18 2 w) 0) Reserved >> ((if eqb (bits 23 9 w) 0 then long_head x a w else Ok (short_head w)) >>= λ h. whole_record x a h)
 
 head-by : (x : Lent) (a : ℕ) → holds x a 4 ≡ true → head_at x a ≡ head_by x a (word_at x a)
 unfolding head_at head_by
 head-by x a h = rw h refl
 
-by-version : (x : Lent) (a w : ℕ) → (bits 18 2 w ≡ 0 → ⊥) → head_by x a w ≡ refuse Reserved
+by-version : (x : Lent) (a w : ℕ) → (bits 18 2 w ≡ 0 → ⊥) → head_by x a w ≡ Err Reserved
 unfolding head_by
 by-version x a w v = rw (ne_eqb (bits 18 2 w) 0 v) refl
 
@@ -40,12 +38,12 @@ unfolding head_by
 by-short x a w v z = rw (eq-eqb (bits 18 2 w) 0 v, ne_eqb (bits 23 9 w) 0 z) refl
 
 -- the head at an RVA, by what its tests say
-pub head-outside : (x : Lent) (a : ℕ) → holds x a 4 ≡ false → head_at x a ≡ refuse OutsideXdata
+pub head-outside : (x : Lent) (a : ℕ) → holds x a 4 ≡ false → head_at x a ≡ Err OutsideXdata
 unfolding head_at
 head-outside x a h = rw h refl
 
 module _ (x : Lent) (a w : ℕ) (e : w ≡ word_at x a) (h : holds x a 4 ≡ true) where
-  pub head-version : (bits 18 2 w ≡ 0 → ⊥) → head_at x a ≡ refuse Reserved
+  pub head-version : (bits 18 2 w ≡ 0 → ⊥) → head_at x a ≡ Err Reserved
   head-version v = head-by x a h ∙ ap (head_by x a) (sym e) ∙ by-version x a w v
 
   pub head-long : bits 18 2 w ≡ 0 → bits 23 9 w ≡ 0 → head_at x a ≡ long_record x a w
@@ -59,29 +57,29 @@ abbrev pub long_of : (word extension : ℕ) → Head
 long_of w v = record { word = w; bytes = 8; count = bits 0 16 v; codewords = bits 16 8 v }
 
 unfoldable long_by : (word extension : ℕ) → Res Head
-long_by w v = need (eqb (bits 24 8 v) 0) Reserved >> ok (long_of w v)
+long_by w v = need (eqb (bits 24 8 v) 0) Reserved >> Ok (long_of w v)
 
 long-by : (x : Lent) (a w : ℕ) → holds x a 8 ≡ true → long_head x a w ≡ long_by w (word_at x (a + 4))
 unfolding long_head long_by
 long-by x a w h = rw h refl
 
-by-reserved : (w v : ℕ) → (bits 24 8 v ≡ 0 → ⊥) → long_by w v ≡ refuse Reserved
+by-reserved : (w v : ℕ) → (bits 24 8 v ≡ 0 → ⊥) → long_by w v ≡ Err Reserved
 unfolding long_by
 by-reserved w v z = rw (ne_eqb (bits 24 8 v) 0 z) refl
 
-by-extension : (w v : ℕ) → bits 24 8 v ≡ 0 → long_by w v ≡ ok (long_of w v)
+by-extension : (w v : ℕ) → bits 24 8 v ≡ 0 → long_by w v ≡ Ok (long_of w v)
 unfolding long_by
 by-extension w v z = rw (eq-eqb (bits 24 8 v) 0 z) refl
 
 then-whole : (x : Lent) (a : ℕ) → Res Head → Res Head
 then-whole x a r = r >>= λ h. whole_record x a h
 
-pub long-outside : (x : Lent) (a w : ℕ) → holds x a 8 ≡ false → long_record x a w ≡ refuse OutsideXdata
+pub long-outside : (x : Lent) (a w : ℕ) → holds x a 8 ≡ false → long_record x a w ≡ Err OutsideXdata
 unfolding long_head
 long-outside x a w h = rw h refl
 
 module _ (x : Lent) (a w v : ℕ) (e : v ≡ word_at x (a + 4)) (h : holds x a 8 ≡ true) where
-  pub long-reserved : (bits 24 8 v ≡ 0 → ⊥) → long_record x a w ≡ refuse Reserved
+  pub long-reserved : (bits 24 8 v ≡ 0 → ⊥) → long_record x a w ≡ Err Reserved
   unfolding then-whole
   long-reserved z = ap (then-whole x a) (long-by x a w h ∙ ap (long_by w) (sym e) ∙ by-reserved w v z)
 
@@ -90,20 +88,11 @@ module _ (x : Lent) (a w v : ℕ) (e : v ≡ word_at x (a + 4)) (h : holds x a 8
   long-given z = ap (then-whole x a) (long-by x a w h ∙ ap (long_by w) (sym e) ∙ by-extension w v z)
 
 -- the whole record
-pub whole-given : (x : Lent) (a : ℕ) (h : Head) → holds x a (record_bytes h) ≡ true → whole_record x a h ≡ ok h
+pub whole-given : (x : Lent) (a : ℕ) (h : Head) → holds x a (record_bytes h) ≡ true → whole_record x a h ≡ Ok h
 whole-given x a h t = rw t refl
 
-pub whole-outside : (x : Lent) (a : ℕ) (h : Head) → holds x a (record_bytes h) ≡ false → whole_record x a h ≡ refuse OutsideXdata
+pub whole-outside : (x : Lent) (a : ℕ) (h : Head) → holds x a (record_bytes h) ≡ false → whole_record x a h ≡ Err OutsideXdata
 whole-outside x a h t = rw t refl
-
--- an answer by its verdict
-pub read-given : (r : Res Head) (read : HeadRead) → read ≡ head_read r → read.verdict ≡ Given → r ≡ ok read.head
-read-given (ok h) read e v = ap ok (sym (ap (λ x. x.head) e))
-read-given (refuse why) read e v = absurd (let z : ◌≡◌ {A = ℕ} 0 1 = cc (ap (λ x. x.verdict) e) in omega arith)
-
-pub read-refused : (r : Res Head) (read : HeadRead) (why : Refusal) → read ≡ head_read r → read.verdict ≡ Refused why → r ≡ refuse why
-read-refused (ok h) read why e v = absurd (let z : ◌≡◌ {A = ℕ} 0 1 = cc (ap (λ x. x.verdict) e) in omega arith)
-read-refused (refuse other) read why e v = let z : other ≡ why = cc (ap (λ x. x.verdict) e) in ap (λ x. refuse x) z
 
 -- a head that is given has at most 65,535 scopes and 255 code words, and its record is lent
 pub record Small (x : Lent) (a : ℕ) (h : Head) : Type 0 where
@@ -113,7 +102,7 @@ pub record Small (x : Lent) (a : ℕ) (h : Head) : Type 0 where
   pub lent : holds x a (record_bytes h) ≡ true
 
 whole-small :
-    (x : Lent) (a : ℕ) (h g : Head) → h.bytes ≤ 8 → h.count < 2 ^ 16 → h.codewords < 2 ^ 8 → whole_record x a h ≡ ok g → Small x a g
+    (x : Lent) (a : ℕ) (h g : Head) → h.bytes ≤ 8 → h.count < 2 ^ 16 → h.codewords < 2 ^ 8 → whole_record x a h ≡ Ok g → Small x a g
 whole-small x a h g b c k e = go (holds x a (record_bytes h)) refl
   where
     go : (t : Bool) → holds x a (record_bytes h) ≡ t → Small x a g
@@ -122,7 +111,7 @@ whole-small x a h g b c k e = go (holds x a (record_bytes h)) refl
         rw same at (let s : Small x a h = record { bytes = b; count = c; codewords = k; lent = p } in s)
     go false p = absurd (let z : ◌≡◌ {A = ℕ} 0 1 = cc (whole-outside x a h p) in omega arith)
 
-long-small : (x : Lent) (a w : ℕ) (h : Head) → long_record x a w ≡ ok h → Small x a h
+long-small : (x : Lent) (a w : ℕ) (h : Head) → long_record x a w ≡ Ok h → Small x a h
 long-small x a w h e = go (holds x a 8) refl (eqb (bits 24 8 (word_at x (a + 4))) 0) refl
   where
     go : (t : Bool) → holds x a 8 ≡ t → (u : Bool) → eqb (bits 24 8 (word_at x (a + 4))) 0 ≡ u → Small x a h
@@ -130,7 +119,7 @@ long-small x a w h e = go (holds x a 8) refl (eqb (bits 24 8 (word_at x (a + 4))
     go true p false q = absurd (let z : ◌≡◌ {A = ℕ} 0 1 = cc (long-reserved x a w (word_at x (a + 4)) refl p (eqb-false _ _ q)) in omega arith)
     go false p u q = absurd (let z : ◌≡◌ {A = ℕ} 0 1 = cc (long-outside x a w p) in omega arith)
 
-pub head_small : (x : Lent) (a : ℕ) (h : Head) → head_at x a ≡ ok h → Small x a h
+pub head_small : (x : Lent) (a : ℕ) (h : Head) → head_at x a ≡ Ok h → Small x a h
 head_small x a h e = go (holds x a 4) refl (eqb (bits 18 2 (word_at x a)) 0) refl (eqb (bits 23 9 (word_at x a)) 0) refl
   where
     go :
@@ -151,16 +140,16 @@ small-record x a h s = go (E h) (X h)
     go false false = omega (arith, s.bytes, s.count, s.codewords)
 
 -- the size routine, by what its tests say
-pub size-unfit : (x : Lent) (a : ℕ) → fit_xdata x ≡ false → xdata_size x a ≡ refuse UnfitInput
+pub size-unfit : (x : Lent) (a : ℕ) → fit_xdata x ≡ false → xdata_size x a ≡ Err UnfitInput
 unfolding xdata_size
 size-unfit x a h = rw h refl
 
 pub size-given :
-    (x : Lent) (a : ℕ) (h : Head) → fit_xdata x ≡ true → head_at x (a - a % 4) ≡ ok h → xdata_size x a ≡ ok (record_bytes h)
+    (x : Lent) (a : ℕ) (h : Head) → fit_xdata x ≡ true → head_at x (a - a % 4) ≡ Ok h → xdata_size x a ≡ Ok (record_bytes h)
 unfolding xdata_size
 size-given x a h f e = rw (f, e) refl
 
 pub size-refused :
-    (x : Lent) (a : ℕ) (why : Refusal) → fit_xdata x ≡ true → head_at x (a - a % 4) ≡ refuse why → xdata_size x a ≡ refuse why
+    (x : Lent) (a : ℕ) (why : Refusal) → fit_xdata x ≡ true → head_at x (a - a % 4) ≡ Err why → xdata_size x a ≡ Err why
 unfolding xdata_size
 size-refused x a why f e = rw (f, e) refl

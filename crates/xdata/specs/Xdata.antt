@@ -5,14 +5,13 @@
 --  |  reserved  | Code words |        Count              |   word 1, if bits 23-31 of word 0 are all 0: 24-31, 16-23, 0-15
 --
 -- After it come the scope words, none with E=1, the code bytes and, with X=1, the handler (RULES 2.9 to 2.12).
-use Rattle.std.specs.Prelude.{ℕ, ◌+◌, ◌-◌, ◌*◌, ◌%◌, ◌^◌, Bool, ◌&&◌, leb, eqb, if◌then◌else◌}
+use Rattle.std.specs.Prelude.{ℕ, ◌+◌, ◌-◌, ◌*◌, ◌%◌, ◌^◌, Bool, ◌&&◌, leb, eqb, if◌then◌else◌, Ok}
 use Rattle.words.specs.Bits.{bits, bit}
 use Rattle.lent.specs.Lent.{Lent, end, holds, word_at}
 use Rattle.words.specs.Units.{halfwords, halfword_bytes, code_word_bytes}
 use Rattle.words.specs.declared.Refusal.TheVariants.{UnfitInput, Reserved, OutsideXdata}
-use Rattle.words.specs.Answer.{Res, ok, need, verdict, or_else, ◌>>=◌, ◌>>◌}
+use Rattle.words.specs.Answer.{Res, need, ◌>>=◌, ◌>>◌}
 use Rattle.xdata.specs.declared.Head.{Head}
-use Rattle.xdata.specs.declared.SizeOf.{SizeOf}
 
 -- what 1 asks of the .xdata (RULES 9.1)
 abbrev pub fit_xdata : Lent → Bool
@@ -50,7 +49,7 @@ long_head x a w = do
   need (holds x a 8) OutsideXdata
   let v = word_at x (a + 4)
   need (eqb (bits 24 8 v) 0) Reserved
-  ok (record { word = w; bytes = 8; count = bits 0 16 v; codewords = bits 16 8 v })
+  Ok (record { word = w; bytes = 8; count = bits 0 16 v; codewords = bits 16 8 v })
 
 abbrev pub short_head : ℕ → Head
 short_head w = record { word = w; bytes = 4; count = bits 23 5 w; codewords = bits 28 4 w }
@@ -61,19 +60,16 @@ head_at x a = do
   need (holds x a 4) OutsideXdata
   let w = word_at x a
   need (eqb (bits 18 2 w) 0) Reserved
-  h ← if eqb (bits 23 9 w) 0 then long_head x a w else ok (short_head w)
+  h ← if eqb (bits 23 9 w) 0 then long_head x a w else Ok (short_head w)
   need (holds x a (record_bytes h)) OutsideXdata
-  ok h
+  Ok h
 
 -- the size routine, which clears bits 0-1 of a record's RVA (RULES 2.13, 9.55)
 unfoldable pub xdata_size : Lent → ℕ → Res ℕ
 xdata_size x a = do
   need (fit_xdata x) UnfitInput
   h ← head_at x (a - a % 4)
-  ok (record_bytes h)
-
-abbrev pub size_answer : Res ℕ → SizeOf
-size_answer r = record { verdict = verdict r; bytes = or_else r 0 }
+  Ok (record_bytes h)
 
 -- the function's length in bytes (RULES 2.7); the handler's RVA, 0 if there is no word of it (RULES 2.12)
 abbrev pub span_of : (word : ℕ) → ℕ

@@ -3,15 +3,13 @@
 
 ghost use Rattle.std.specs.Prelude.{◌≡◌, ◌+◌, ◌*◌, ◌<◌, ◌≤◌, length};
 ghost use Rattle.lent.specs.Lent.{lent};
-ghost use Rattle.lent.specs.Little.{word32};
-ghost use Rattle.words.specs.Answer.{ok, refuse};
-ghost use Rattle.xdata.specs.Xdata.{fit_xdata, handled as handled_of, X, E, F, scope_count as spec_scope_count, codes_offset as spec_codes_offset, handler_offset as spec_handler_offset, record_bytes as spec_record_bytes, short_head as spec_short_head, head_at as spec_head_at, xdata_size as spec_xdata_size, size_answer, span_of, handler_at};
-ghost use Rattle.xdata.specs.AsCoded.Heads.{head_read, whole_record as spec_whole_record, long_record};
+ghost use Rattle.xdata.specs.Xdata.{fit_xdata, handled as handled_of, X, E, F, scope_count as spec_scope_count, codes_offset as spec_codes_offset, handler_offset as spec_handler_offset, record_bytes as spec_record_bytes, short_head as spec_short_head, head_at as spec_head_at, xdata_size as spec_xdata_size, span_of, handler_at};
+ghost use Rattle.xdata.specs.AsCoded.Heads.{whole_record as spec_whole_record, long_record};
 ghost use Rattle.xdata.specs.Scopes.{scope_of as spec_scope_of};
 ghost use Rattle.xdata.specs.AsCoded.Scopes.{res_zero as spec_res_zero};
 
 use unwinding::{Scope, Start};
-use words::{CodeBytes, Halfwords, Refusal, Verdict, bit, bits};
+use words::{CodeBytes, Halfwords, Refusal, bit, bits};
 
 // The head of an .xdata record: its first word, its own bytes (4, or 8 with the extension word), and the count and the code words from
 // the one or the other.
@@ -21,20 +19,6 @@ pub struct Head {
     pub bytes: u32,
     pub count: u32,
     pub codewords: u32,
-}
-
-// An .xdata record's size in bytes; 0 where it is refused.
-#[derive(Clone, Copy)]
-pub struct SizeOf {
-    pub verdict: Verdict,
-    pub bytes: u32,
-}
-
-// A head that was read; all 0 where it is refused.
-#[derive(Clone, Copy)]
-pub struct HeadRead {
-    pub verdict: Verdict,
-    pub head: Head,
 }
 
 // Whether the .xdata may be lent at this RVA: 1 else.
@@ -106,44 +90,26 @@ fn record_bytes(h: Head) -> u64
     handler_offset(h)
 }
 
-// A refused head.
-fn no_head(why: Refusal) -> HeadRead
-    ensures { result ≡ head_read (refuse why) }
-{
-    HeadRead {
-        verdict: Verdict::Refused(why),
-        head: Head {
-            word: 0,
-            bytes: 0,
-            count: 0,
-            codewords: 0,
-        },
-    }
-}
-
 // The head, if its whole record is lent.
-fn whole_record(rva: u32, xdata: &[u8], at: u32, h: Head) -> HeadRead
-    ensures { result ≡ head_read (spec_whole_record (lent rva xdata.now) at h) }
+fn whole_record(rva: u32, xdata: &[u8], at: u32, h: Head) -> Result<Head, Refusal>
+    ensures { result ≡ spec_whole_record (lent rva xdata.now) at h }
 {
-    if lent::holds(rva, xdata, at as u64, record_bytes(h)) {
-        return HeadRead {
-            verdict: Verdict::Given,
-            head: h,
-        };
+    if !lent::holds(rva, xdata, at as u64, record_bytes(h)) {
+        return Err(Refusal::OutsideXdata);
     }
-    no_head(Refusal::OutsideXdata)
+    Ok(h)
 }
 
 // The head of a record with the extension word.
-fn long_head(rva: u32, xdata: &[u8], at: u32, word: u32) -> HeadRead
-    ensures { result ≡ head_read (long_record (lent rva xdata.now) at word) }
+fn long_head(rva: u32, xdata: &[u8], at: u32, word: u32) -> Result<Head, Refusal>
+    ensures { result ≡ long_record (lent rva xdata.now) at word }
 {
     if !lent::holds(rva, xdata, at as u64, 8) {
-        return no_head(Refusal::OutsideXdata);
+        return Err(Refusal::OutsideXdata);
     }
     let v = lent::word_at(rva, xdata, (at as u64) + 4);
     if bits(v, 24, 8) != 0 {
-        return no_head(Refusal::Reserved);
+        return Err(Refusal::Reserved);
     }
     let h = Head {
         word: word,
@@ -155,8 +121,8 @@ fn long_head(rva: u32, xdata: &[u8], at: u32, word: u32) -> HeadRead
 }
 
 // The head of a record without it.
-fn short_head(rva: u32, xdata: &[u8], at: u32, word: u32) -> HeadRead
-    ensures { result ≡ head_read (spec_whole_record (lent rva xdata.now) at (spec_short_head word)) }
+fn short_head(rva: u32, xdata: &[u8], at: u32, word: u32) -> Result<Head, Refusal>
+    ensures { result ≡ spec_whole_record (lent rva xdata.now) at (spec_short_head word) }
 {
     let h = Head {
         word: word,
@@ -168,15 +134,15 @@ fn short_head(rva: u32, xdata: &[u8], at: u32, word: u32) -> HeadRead
 }
 
 // The head of the record at an RVA: the tests of RULES 9.52 but for Res.
-pub fn head_at(rva: u32, xdata: &[u8], at: u32) -> HeadRead
-    ensures { result ≡ head_read (spec_head_at (lent rva xdata.now) at) }
+pub fn head_at(rva: u32, xdata: &[u8], at: u32) -> Result<Head, Refusal>
+    ensures { result ≡ spec_head_at (lent rva xdata.now) at }
 {
     if !lent::holds(rva, xdata, at as u64, 4) {
-        return no_head(Refusal::OutsideXdata);
+        return Err(Refusal::OutsideXdata);
     }
     let word = lent::word_at(rva, xdata, at as u64);
     if bits(word, 18, 2) != 0 {
-        return no_head(Refusal::Reserved);
+        return Err(Refusal::Reserved);
     }
     if bits(word, 23, 9) == 0 {
         return long_head(rva, xdata, at, word);
@@ -184,40 +150,15 @@ pub fn head_at(rva: u32, xdata: &[u8], at: u32) -> HeadRead
     short_head(rva, xdata, at, word)
 }
 
-// A refused size.
-fn no_size(why: Refusal) -> SizeOf
-    ensures { result ≡ size_answer (refuse why) }
-{
-    SizeOf {
-        verdict: Verdict::Refused(why),
-        bytes: 0,
-    }
-}
-
-// The size of a record whose head was read.
-fn size_of(h: Head) -> SizeOf
-    requires { spec_record_bytes h < 4294967296 }
-    ensures { result ≡ size_answer (ok (spec_record_bytes h)) }
-{
-    SizeOf {
-        verdict: Verdict::Given,
-        bytes: record_bytes(h) as u32,
-    }
-}
-
 // The size of the record at an RVA, of which bits 0-1 are cleared (RULES 2.13).
-pub fn xdata_size(rva: u32, xdata: &[u8], at: u32) -> SizeOf
-    ensures { result ≡ size_answer (spec_xdata_size (lent rva xdata.now) at) }
+pub fn xdata_size(rva: u32, xdata: &[u8], at: u32) -> Result<u32, Refusal>
+    ensures { result ≡ spec_xdata_size (lent rva xdata.now) at }
 {
     if !fit(rva, xdata) {
-        return no_size(Refusal::UnfitInput);
+        return Err(Refusal::UnfitInput);
     }
-    let read = head_at(rva, xdata, at - at % 4);
-    let verdict = read.verdict;
-    match verdict {
-        Verdict::Given => size_of(read.head),
-        Verdict::Refused(why) => no_size(why),
-    }
+    let head = head_at(rva, xdata, at - at % 4)?;
+    Ok(record_bytes(head) as u32)
 }
 
 // The function's length in bytes.
@@ -243,12 +184,10 @@ pub fn res_zero(xdata: &[u8], at: usize, n: usize) -> bool
     requires { at + 4 * n ≤ length xdata.now }
     ensures { result ≡ spec_res_zero xdata.now at 0 n }
 {
-    let mut k = 0;
-    while k < n {
+    for k in 0..n {
         if bits(lent::word32_in(xdata, at + 4 * k), 18, 2) != 0 {
             return false;
         }
-        k += 1;
     }
     true
 }

@@ -4,4 +4,4 @@ use Rattle.text.proofs.Overlaid.{joined}
 use Rattle.caller_text.proofs.put_double.Goals as goal
 
 pub returns : goal.returns
-returns c = joined (joined (joined c.put_count-next.ensures c.put_byte-next.ensures) c.put_hex16-next.ensures) c.put_byte.ensures
+returns c = joined (joined c.put_byte-next.ensures c.put_hex16-next.ensures) c.put_byte.ensures

@@ -1,38 +1,26 @@
--- The loop's invariant: the lines of the registers below `i` are laid. The measure is what is left of 13.
+-- The loop's invariant: the lines of the registers below `i` are laid.
 -- Assumes nothing.
 use Prim.Native.Nat.{◌+◌}
 use mathlib.Core.Path.{◌≡◌}
+use mathlib.Core.List.{◌++◌}
+use lib.ListN.{get_or}
 use native.Mathlib.Numerals.{add-one}
 use native.Mathlib.Omega.{arith}
-use Rattle.text.specs.Text.{numbered}
+use Rattle.text.specs.Text.{text, decimal, hex8, numbered}
 use Rattle.caller_text.specs.CallerText.{r_line}
-use Rattle.text.proofs.Overlaid.{none, joined, laid-length}
+use Rattle.text.proofs.Overlaid.{none, joined, laid_as}
 use Rattle.text.proofs.Numbers.{numbered-last}
+use Rattle.caller_text.proofs.Lines.{line-is}
 use Rattle.caller_text.proofs.put_integers.Goals as goal
 
 pub loop-i-init : goal.loop-i-init
 unfolding numbered
-loop-i-init c = (omega arith, none _ _ (omega arith) (omega arith))
-
-pub offset_bounds-r-i : goal.offset_bounds-r-i
-offset_bounds-r-i c = omega arith
-
-pub bounds-r-i : goal.bounds-r-i
-bounds-r-i c = omega arith
-
-pub overflow_add-i : goal.overflow_add-i
-overflow_add-i c = omega arith
-
-pub loop-i-smaller : goal.loop-i-smaller
-loop-i-smaller c = omega arith
+loop-i-init c = none _ _ (omega arith) (omega arith)
 
 pub loop-i-preserved : goal.loop-i-preserved
 loop-i-preserved c =
-    let z : c.loop-i.i ≡ 0 + c.loop-i.i = omega arith in
-    (omega arith, rw (add-one, numbered-last (r_line c.args.r) 0 c.loop-i.i, ← z) (joined c.loop-i.invariant.1 c.put_integer-next.ensures))
-
-pub shape_of-out : goal.shape_of-out
-shape_of-out c = laid-length c.loop-i.invariant.1
-
-pub returns : goal.returns
-returns c = let e : c.loop-i.i ≡ 13 = omega arith in rw (← e) c.loop-i.invariant.1
+    let a = c.args in
+    let i = c.loop-i.i in
+    let z : i ≡ 0 + i = omega arith in
+    let line = laid_as (line-is (text "r" ++ decimal i) (hex8 (get_or a.r i 0))) (joined c.put_count-next.ensures c.put_value-next.ensures) in
+    rw (add-one, numbered-last (r_line a.r) 0 i, ← z) (joined c.loop-i.invariant line)

@@ -6,4 +6,4 @@ use Rattle.caller_text.proofs.put_unwound.Goals as goal
 
 pub returns : goal.returns
 unfolding unwound_text
-returns c = joined (joined c.put_verdict-next.ensures c.put_byte-next.ensures) c.put_registers.ensures
+returns c = joined (joined c.put_told-next.ensures c.put_byte-next.ensures) c.put_registers.ensures

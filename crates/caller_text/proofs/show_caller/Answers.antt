@@ -5,12 +5,12 @@ use Rattle.report.proofs.Reading.{read-given, read-refused}
 use Rattle.caller_text.proofs.Shown.{shown-given, shown-refused, shown}
 use Rattle.caller_text.proofs.show_caller.Goals as goal
 
-pub returns-in-Given : goal.returns-in-Given
-returns-in-Given c =
-    let h = shown _ (laid_as (shown-given _ (read-given _ _ c.read_report-p.ensures.value c.in-Given.is)) c.show_parts.ensures) in
+pub returns-in-Ok : goal.returns-in-Ok
+returns-in-Ok c =
+    let h = shown _ (laid_as (shown-given _ (read-given _ _ c.in-Ok.ensures.value)) c.show_parts.ensures) in
     record { value = h.0; upper_bound = h.1 }
 
-pub returns-in-Refused : goal.returns-in-Refused
-returns-in-Refused c =
-    let h = shown _ (laid_as (shown-refused _ (read-refused _ _ _ c.read_report-p.ensures.value c.in-Refused.is)) c.put_refusal.ensures) in
+pub returns-in-Err : goal.returns-in-Err
+returns-in-Err c =
+    let h = shown _ (laid_as (shown-refused _ (read-refused _ _ c.in-Err.ensures.value)) c.put_refusal.ensures) in
     record { value = h.0; upper_bound = h.1 }

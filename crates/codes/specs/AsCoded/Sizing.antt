@@ -1,11 +1,12 @@
 -- One code without what it undoes. That an entry's sort and a second byte say it are laws (`by_kind`, `by-second` of proofs/Sorts.antt).
 use Rattle.std.specs.Prelude.{ℕ, ◌/◌, ◌%◌, Bool, leb, eqb, if◌then◌else◌}
+use Rattle.codes.specs.declared.Code.{Code}
+use Rattle.words.specs.declared.Halfwords.{Halfwords}
 use Rattle.codes.specs.declared.Taken.{Taken}
 use Rattle.codes.specs.declared.Taken.TheVariants as T
-use Rattle.codes.specs.declared.Sized.{Sized}
-use Rattle.codes.specs.declared.Sized.TheVariants.{One, Last, Bad}
+use Rattle.codes.specs.declared.Taken.TheVariants.{One, Last, Bad}
 
-abbrev pub sized : Taken → Sized
+abbrev pub sized : Taken Code → Taken Halfwords
 sized (T.One c next) = One c.size next
 sized (T.Last n) = Last n
 sized (T.Bad i) = Bad i

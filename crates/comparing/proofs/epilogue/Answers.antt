@@ -9,9 +9,8 @@ use Rattle.unwinding.proofs.Scanning.{take_next}
 use Rattle.codes.specs.Code.{size, seen}
 use Rattle.codes.proofs.Scanning.{takes, take-size}
 use Rattle.expected.specs.Expected.{after}
-use Rattle.comparing.specs.Items.{scan_coded}
+use Rattle.comparing.specs.Items.{scan_coded, differs}
 use Rattle.comparing.specs.AsCoded.Passes.{last_of, test, epilogue_pass}
-use Rattle.comparing.specs.declared.Compared.TheVariants.{Differs}
 use Rattle.comparing.proofs.Scanning.{scan-last, scan-bad}
 use Rattle.comparing.proofs.Passing.{taken-listed, scan-past, epilogue-one, epilogue-none}
 use Rattle.comparing.proofs.epilogue.Goals as goal
@@ -51,7 +50,7 @@ loop-i-preserved c =
     let met : test s l.at (after (last_of r.list r.ending) t.c) ≡ true =
     sym (c.stands.ensures ∙ ap (test s l.at) (c.in_epilogue.ensures ∙ ap (λ b. after b t.c) c.returns_at.ensures)) ∙ c.if-not-stands.false in (
       ap (λ n. epilogue_pass s (l.at + n) r.list r.ending) c.halfword_bytes-at.ensures.0
-          ∙ if-true _ (Differs l.at) met
+          ∙ if-true _ (differs l.at) met
           ∙ sym (epilogue-one s k l.i e l.at)
           ∙ l.invariant.0,
       omega (arith, l.invariant.1, m.far, m.near, take-size k l.i (ap seen e), c.halfword_bytes-at.ensures.0),

@@ -11,9 +11,8 @@ use Rattle.unwinding.proofs.Scanning.{take_next}
 use Rattle.codes.specs.Code.{seen}
 use Rattle.codes.proofs.Scanning.{takes}
 use Rattle.expected.specs.Expected.{before}
-use Rattle.comparing.specs.Items.{size_of, scan_coded}
+use Rattle.comparing.specs.Items.{size_of, scan_coded, differs}
 use Rattle.comparing.specs.AsCoded.Passes.{test, prologue_pass}
-use Rattle.comparing.specs.declared.Compared.TheVariants.{Differs}
 use Rattle.comparing.proofs.Scanning.{scan-last, scan-bad}
 use Rattle.comparing.proofs.Passing.{scan-past, total-one, prologue-one, prologue-none}
 use Rattle.comparing.proofs.prologue.Goals as goal
@@ -48,7 +47,7 @@ loop-i-preserved c =
     let z : l.left - c.halfword_bytes-left.result ≡ n = omega (arith, l.invariant.0, total-one s k l.i e, c.halfword_bytes-left.ensures.0) in
     let met : c.stands-met.result ≡ test s n (before (get_or k l.i 0) t.c) = c.stands-met.ensures ∙ ap₂ (test s) z c.in_prologue.ensures in (
       z,
-      ap (prologue_pass s (scan_coded k t.next).list) (c.noted-found.ensures ∙ ap₂ (λ m d. if m then l.found else Differs d) met z)
+      ap (prologue_pass s (scan_coded k t.next).list) (c.noted-found.ensures ∙ ap₂ (λ m d. if m then l.found else differs d) met z)
           ∙ sym (prologue-one s k l.i e l.found)
           ∙ l.invariant.1,
     )

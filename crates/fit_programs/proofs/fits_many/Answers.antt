@@ -1,8 +1,8 @@
--- The length of the longer buffer comes by a law: to compute it would take all the stack.
+-- The buffer is so long that its length comes by a law: to compute it would take all the stack.
 -- Assumes nothing.
-use mathlib.Core.Path.{refl}
+use mathlib.Core.Path.{sym}
 use Rattle.fit_programs.proofs.Zeros.{zeros}
 use Rattle.fit_programs.proofs.fits_many.Goals as goal
 
-pub loop-turns-init : goal.loop-turns-init
-loop-turns-init g c = (refl, zeros 1048576)
+pub slice_bounds-run_many-end : goal.slice_bounds-run_many-end
+slice_bounds-run_many-end g c = sym (zeros 1048576)

@@ -7,13 +7,13 @@ use Rattle.fitting.proofs.Planned.{open-ends, open-refused, open-total}
 use Rattle.fitting.proofs.opened.Goals as goal
 
 pub bytes_of-requires : goal.bytes_of-requires
-bytes_of-requires c = omega (arith, (scanned-ends c.args.codes.now (code_bytes 0) _ _ (sym c.in-Ends.ensures)).few, c.requires.1)
+bytes_of-requires c = omega (arith, (scanned-ends c.args.codes.now (code_bytes 0) _ (sym c.in-Ok.ensures)).few, c.requires.1)
 
 pub prologue-requires : goal.prologue-requires
-prologue-requires c = (c.requires.0, c.bytes_of.ensures ∙ open-total _ _ _ (sym c.scan.ensures ∙ c.in-Ends.is))
+prologue-requires c = (c.requires.0, c.bytes_of.ensures ∙ open-total _ _ (sym c.in-Ok.ensures))
 
-pub returns-in-Ends : goal.returns-in-Ends
-returns-in-Ends c = c.prologue.ensures ∙ open-ends _ _ _ c.if-fragment.false _ _ (sym c.scan.ensures ∙ c.in-Ends.is)
+pub returns-in-Ok : goal.returns-in-Ok
+returns-in-Ok c = c.prologue.ensures ∙ open-ends _ _ _ c.if-fragment.false _ (sym c.in-Ok.ensures)
 
-pub returns-in-Refused : goal.returns-in-Refused
-returns-in-Refused c = open-refused _ _ _ c.if-fragment.false _ (sym c.in-Refused.ensures)
+pub returns-in-Err : goal.returns-in-Err
+returns-in-Err c = open-refused _ _ _ c.if-fragment.false _ (sym c.in-Err.ensures)

@@ -1,6 +1,6 @@
--- The invariant: what the scopes that are left come to is what all come to. The measure is how many are left.
+-- The invariant: what the scopes that are left come to is what all come to.
 -- Assumes nothing.
-use Prim.Native.Nat.{◌-◌, ◌≤◌}
+use Prim.Native.Nat.{◌-◌}
 use mathlib.Core.Path.{◌≡◌}
 use Rattle.record.specs.AsCoded.Plan.{scopes_from}
 use Rattle.fitting.specs.AsCoded.Passes.{scopes_pass}
@@ -8,7 +8,4 @@ use Rattle.fitting.proofs.scopes.Given as goal
 
 abbrev pub invariant-loop-k : goal.invariant-loop-k
 invariant-loop-k l =
-    (l.k ≤ l.n) × (scopes_pass l.code l.codes l.span (scopes_from l.plan.scopes l.xdata l.k (l.n - l.k)) ≡ scopes_pass l.code l.codes l.span (scopes_from l.plan.scopes l.xdata 0 l.n))
-
-abbrev pub decreases-loop-k : goal.decreases-loop-k
-decreases-loop-k l = l.n - l.k
+    scopes_pass l.code l.codes l.span (scopes_from l.plan.scopes l.xdata l.k (l.n - l.k)) ≡ scopes_pass l.code l.codes l.span (scopes_from l.plan.scopes l.xdata 0 l.n)

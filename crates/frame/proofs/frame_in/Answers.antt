@@ -3,8 +3,8 @@
 use mathlib.Core.Path.{◌≡◌, sym, ap, ◌∙◌}
 use Rattle.machine.specs.AsCoded.Answers.{regs}
 use Rattle.pdata.specs.declared.Checked.{Checked}
-use Rattle.pdata.specs.Pdata.{find, checked}
-use Rattle.frame.specs.Frame.{inputs}
+use Rattle.pdata.specs.Pdata.{checked}
+use Rattle.frame.specs.Frame.{inputs, after_find}
 use Rattle.frame.proofs.Finding.{frame-unfit, frame-fit}
 use Rattle.frame.proofs.frame_in.Goals as goal
 
@@ -19,7 +19,7 @@ returns-then-c c =
     let w = frame-fit a.first t g (sym (ap (λ x. x.fit) h) ∙ f.if-c.true) in
     let s : ◌≡◌ {A = Checked} a.c (checked a.pdata.now) =
     λ i. record { fit = (f.if-c.true ∙ sym w.1) i; sorted = ap (λ x. x.sorted) h i } in
-    c.after_find.ensures a.pdata.now (find a.image a.pdata.now a.pc) (f.find_in-found.ensures s) ∙ sym w.0
+    c.after_find.ensures a.pdata.now ∙ ap (after_find a.first t g) (f.find_in-found.ensures s) ∙ sym w.0
 
 pub returns : goal.returns
 returns c =
@@ -28,4 +28,4 @@ returns c =
     λ h.
     let t = inputs a.image a.pdata.now a.rva a.xdata.now a.base a.stack.now in
     let g = regs a.r.now a.sp a.lr a.pc a.d.now in
-    c.refused.ensures _ _ ∙ sym (frame-unfit a.first t g (sym (ap (λ x. x.fit) h) ∙ c.if-c.false))
+    sym (frame-unfit a.first t g (sym (ap (λ x. x.fit) h) ∙ c.if-c.false))

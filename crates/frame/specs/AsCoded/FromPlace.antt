@@ -1,13 +1,11 @@
 -- The caller from where the pc stands: the codes from an index run, 11, and the answer. That this is `within` is a law (`within-placed` of
 -- proofs/Within.antt), and that by the record found it is `by_word` (`word-placed` of proofs/Records.antt).
-use Rattle.std.specs.Prelude.{ℕ, ◌≡◌, List, Bool, true, false, length, leb, ltb, if◌then◌else◌}
+use Rattle.std.specs.Prelude.{ℕ, ◌≡◌, List, Bool, length, leb, ltb, if◌then◌else◌, Option, Ok}
 use Rattle.lent.specs.Lent.{Lent}
 use Rattle.words.specs.declared.CodeBytes.{CodeBytes}
 use Rattle.words.specs.declared.Place.{Place}
 use Rattle.words.specs.declared.Refusal.TheVariants.{SpFell}
-use Rattle.words.specs.declared.Verdict.{Verdict}
-use Rattle.words.specs.declared.Verdict.TheVariants.{Given, Refused}
-use Rattle.words.specs.Answer.{Res, ok, refuse, ◌>>=◌, ◌>>◌, need}
+use Rattle.words.specs.Answer.{Res, ◌>>=◌, ◌>>◌, need, maybe}
 use Rattle.codes.specs.Code.{scan}
 use Rattle.machine.specs.declared.Regs.{Regs}
 use Rattle.machine.specs.AsCoded.Run.{run_at}
@@ -20,21 +18,15 @@ use Rattle.place.specs.declared.Placed.{Placed}
 -- 11, and the caller (RULES 6.3)
 abbrev pub finish : (handler : ℕ) → (given : Regs) → Place → (codes : ℕ) → Regs → Res Caller
 finish handler g p n h =
-    need (leb g.sp h.sp) SpFell >> ok (record { regs = returned h; place = p; handler = handler; codes = n })
+    need (leb g.sp h.sp) SpFell >> Ok (record { regs = returned h; place = p; handler = handler; codes = n })
 
 -- the codes from an index run, and that
 abbrev pub ran_from : (stack : Lent) → (codes : List ℕ) → (handler : ℕ) → Regs → Place → CodeBytes → Res Caller
 ran_from k s handler g p i = run_at k s i g >>= finish handler g p (length (scan s i).list)
 
--- by where the pc stands in a record: refused, run from there, or not covered
-abbrev pub placed_from :
-    (first : Bool) → (stack : Lent) → (codes : List ℕ) → (handler : ℕ) → Regs → Place → CodeBytes → (covers : Bool) → Verdict → Res Caller
-placed_from first k s handler g p i true Given = ran_from k s handler g p i
-placed_from first k s handler g p i false Given = uncovered first g
-placed_from first k s handler g p i c (Refused r) = refuse r
-
-abbrev pub from_placed : (first : Bool) → (stack : Lent) → (codes : List ℕ) → Regs → Placed → Res Caller
-from_placed first k s g p = placed_from first k s p.handler g p.place p.index p.covers p.verdict
+-- by where the pc stands in a record with these code bytes, if its function covers it
+abbrev pub from_placed : (first : Bool) → (stack : Lent) → (codes : List ℕ) → Regs → Option Placed → Res Caller
+from_placed first k s g p = maybe p (uncovered first g) (λ p. ran_from k s p.handler g p.place p.index)
 
 -- what a frame comes to over tables whose checks were made: those of these inputs
 abbrev pub Answers : (first : Bool) → Checked → Inputs → Regs → Unwound → Type 0

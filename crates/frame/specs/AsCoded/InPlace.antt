@@ -1,10 +1,8 @@
 -- A frame in place: what it came to beside r0-r12 and d0-d31, which are lent. Its pc is LR with bit 0 cleared (RULES 6.3). That it is
 -- `frame_of` is what the contracts of `frame_in` and of what it calls say.
-use Rattle.std.specs.Prelude.{ℕ, ◌≡◌, List, Bool}
+use Rattle.std.specs.Prelude.{ℕ, ◌≡◌, List, Bool, Ok}
 use Rattle.words.specs.Bits.{even}
-use Rattle.words.specs.Answer.{Res, ok, refuse}
-use Rattle.words.specs.declared.Verdict.{Verdict}
-use Rattle.words.specs.declared.Verdict.TheVariants.{Given, Refused}
+use Rattle.words.specs.Answer.{Res, ◌>>=◌}
 use Rattle.machine.specs.declared.Regs.{Regs}
 use Rattle.machine.specs.AsCoded.Answers.{regs}
 use Rattle.pdata.specs.declared.Checked.{Checked}
@@ -15,13 +13,9 @@ use Rattle.frame.specs.declared.Came.{Came}
 abbrev pub caller_by : Came → (r d : List ℕ) → Caller
 caller_by u r d = record { regs = regs r u.sp u.lr (even u.lr) d; place = u.place; handler = u.handler; codes = u.codes }
 
-abbrev pub came_by : Verdict → Caller → Res Caller
-came_by Given c = ok c
-came_by (Refused why) c = refuse why
-
-abbrev pub came_to : Came → (r d : List ℕ) → Res Caller
-came_to u r d = came_by u.verdict (caller_by u r d)
+abbrev pub came_to : Res Came → (r d : List ℕ) → Res Caller
+came_to u r d = u >>= λ c. Ok (caller_by c r d)
 
 -- over tables whose checks were made: those of these inputs
-abbrev pub Comes : (first : Bool) → Checked → Inputs → Regs → Came → (r d : List ℕ) → Type 0
+abbrev pub Comes : (first : Bool) → Checked → Inputs → Regs → Res Came → (r d : List ℕ) → Type 0
 Comes first c t g u r d = c ≡ checked t → came_to u r d ≡ frame_of first t g

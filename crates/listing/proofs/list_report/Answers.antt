@@ -5,12 +5,12 @@ use Rattle.report.proofs.Reading.{read-given, read-refused}
 use Rattle.listing.proofs.Listed.{listing-given, listing-refused, listed}
 use Rattle.listing.proofs.list_report.Goals as goal
 
-pub returns-in-Given : goal.returns-in-Given
-returns-in-Given c =
-    let h = listed _ (laid_as (listing-given _ (read-given _ _ c.read_report-p.ensures.value c.in-Given.is)) c.list_parts.ensures) in
+pub returns-in-Ok : goal.returns-in-Ok
+returns-in-Ok c =
+    let h = listed _ (laid_as (listing-given _ (read-given _ _ c.in-Ok.ensures.value)) c.list_parts.ensures) in
     record { value = h.0; upper_bound = h.1 }
 
-pub returns-in-Refused : goal.returns-in-Refused
-returns-in-Refused c =
-    let h = listed _ (laid_as (listing-refused _ (read-refused _ _ _ c.read_report-p.ensures.value c.in-Refused.is)) c.put_refusal.ensures) in
+pub returns-in-Err : goal.returns-in-Err
+returns-in-Err c =
+    let h = listed _ (laid_as (listing-refused _ (read-refused _ _ c.in-Err.ensures.value)) c.put_refusal.ensures) in
     record { value = h.0; upper_bound = h.1 }

@@ -9,13 +9,13 @@ use Rattle.walking.specs.declared.Standing.{Standing}
 use Rattle.walking.specs.Walk.{arm, walk}
 use Rattle.walking.specs.AsCoded.InPlace.{stands}
 use Rattle.text.specs.Overlay.{Laid}
-use Rattle.text.proofs.Overlaid.{none, joined, laid-length}
+use Rattle.text.proofs.Overlaid.{none}
 use Rattle.listing.specs.Listing.{printed}
-use Rattle.listing.proofs.Printing.{printing-begins, printing-small, printing-turn, printing-fewer, printing-headed}
+use Rattle.listing.proofs.Printing.{printing-begins, printing-small, printing-on, printing-less, printing-ends, printing-headed}
 use Rattle.listing.proofs.put_walk.Goals as goal
 
-pub loop-on-init : goal.loop-on-init
-loop-on-init c =
+pub loop-going-init : goal.loop-going-init
+loop-going-init c =
     let k = c.stand-s in
     let g = c.args.g in
     printing-begins _ (stands k.result g.r g.d) _ _
@@ -23,30 +23,27 @@ loop-on-init c =
     (none _ _ (omega arith) (omega arith))
 
 pub turn_in-x-requires : goal.turn_in-x-requires
-turn_in-x-requires c =
-    (c.row_table-rows.ensures, c.check-c.ensures, printing-small _ _ (rw c.loop-on-test.true at c.loop-on.invariant))
+turn_in-x-requires c = (c.row_table-rows.ensures, c.check-c.ensures, printing-small _ _ c.loop-going.invariant)
 
-pub loop-on-smaller : goal.loop-on-smaller
-loop-on-smaller c =
-    let l = c.loop-on in
+pub loop-going-smaller : goal.loop-going-smaller
+loop-going-smaller c =
+    let l = c.loop-going in
     let x = c.turn_in-x in
-    let t = c.loop-on-test.true in
-    rw t (printing-fewer _ _ l.s l.r l.d (rw t at l.invariant) x.result x.new.r x.new.d x.ensures)
+    printing-less _ _ l.s l.r l.d l.invariant c.in-Ok.going x.new.r x.new.d (rw c.in-Ok.is at x.ensures)
 
-pub loop-on-preserved : goal.loop-on-preserved
-loop-on-preserved c =
-    let l = c.loop-on in
+pub loop-going-preserved : goal.loop-going-preserved
+loop-going-preserved c =
+    let l = c.loop-going in
     let x = c.turn_in-x in
-    printing-turn _ _ l.s l.r l.d (rw c.loop-on-test.true at l.invariant) x.result x.new.r x.new.d x.ensures c.put_turn-next.ensures
+    printing-on _ _ l.s l.r l.d l.invariant c.in-Ok.going x.new.r x.new.d (rw c.in-Ok.is at x.ensures) (rw c.in-Ok.is at c.put_turn-next.ensures)
 
-pub shape_of-out : goal.shape_of-out
-shape_of-out c = laid-length (joined c.put_text-next.ensures (rw c.loop-on-test.false at c.loop-on.invariant))
-
-pub returns : goal.returns
-returns c =
-    let l = c.loop-on in
+pub returns-in-Err : goal.returns-in-Err
+returns-in-Err c =
+    let l = c.loop-going in
     let a = c.args in
+    let x = c.turn_in-x in
     let t = inputs a.image a.pdata.now a.rva a.xdata.now a.base a.stack.now in
     let k = c.stand-s in
-    subst (λ (p : Standing). Laid a.out.now 0 (printed (walk t 256 (stands p a.g.r a.g.d).at)) l.next l.out) k.ensures
-    (printing-headed t (stands k.result a.g.r a.g.d).at c.put_text-next.ensures (rw c.loop-on-test.false at l.invariant))
+    subst (λ (p : Standing). Laid a.out.now 0 (printed (walk t 256 (stands p a.g.r a.g.d).at)) c.put_turn-next.result c.put_turn-next.new.out) k.ensures
+    (printing-headed t (stands k.result a.g.r a.g.d).at c.put_text-next.ensures
+    (printing-ends _ _ l.s l.r l.d l.invariant _ x.new.r x.new.d (rw c.in-Err.is at x.ensures) (rw c.in-Err.is at c.put_turn-next.ensures)))

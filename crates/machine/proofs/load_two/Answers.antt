@@ -1,11 +1,9 @@
--- `load_two` meets its contract: two words loaded, the lower first, or the first refusal of the two loads. A word that was loaded is within
--- the stack, so that the next address fits.
+-- `load_two` meets its contract: a word that was loaded is within the stack, so that the next address fits.
 -- Assumes nothing.
-use mathlib.Core.Path.{sym, ◌∙◌}
+use mathlib.Core.Path.{sym}
 use native.Mathlib.Omega.{arith}
-use Rattle.machine.proofs.Answers.{loaded_word}
 use Rattle.machine.proofs.Loading.{load_inside}
 use Rattle.machine.proofs.load_two.Goals as goal
 
 pub overflow_add-at : goal.overflow_add-at
-overflow_add-at c = omega (arith, load_inside _ _ _ (loaded_word _ _ (sym c.load.ensures ∙ c.in-Word.is)))
+overflow_add-at c = omega (arith, load_inside _ _ _ (sym c.in_ok-low.ensures))

@@ -11,8 +11,7 @@ pub returns-then-words_listed-eq0 : goal.returns-then-words_listed-eq0
 returns-then-words_listed-eq0 c pc d =
     let a = c.args in
     let g = regs a.r.now a.sp a.lr pc d in
-    rw c.moved.ensures
-    (sym (pop-nothing (lent a.base a.stack.now) a.list g 15 (sym c.words_listed.ensures ∙ c.if-words_listed-eq0.true)))
+    sym (pop-nothing (lent a.base a.stack.now) a.list g 15 (sym c.words_listed.ensures ∙ c.if-words_listed-eq0.true))
 
 pub returns : goal.returns
 returns c pc d =

@@ -1,6 +1,7 @@
 -- `pop_in` meets its contract. The loop's invariant: the registers and SP are what the definition's pop of the numbers passed gives, and
 -- the offset is behind their words. The measure is how many are left.
 -- Assumes nothing.
+use Rattle.std.specs.Prelude.{Ok}
 use Prim.Native.Nat.{ℕ, ◌+◌, ◌-◌, ◌*◌, ◌<◌, ◌≤◌}
 use mathlib.Core.Path.{◌≡◌, sym, ap, ◌∙◌}
 use mathlib.Core.Bool.{true}
@@ -10,7 +11,6 @@ use native.Mathlib.Numerals.{add-one}
 use native.Mathlib.Omega.{arith}
 use Rattle.words.specs.Bits.{bit}
 use Rattle.lent.specs.Lent.{lent, holds}
-use Rattle.words.specs.Answer.{ok}
 use Rattle.machine.specs.Step.{pop}
 use Rattle.machine.specs.AsCoded.Answers.{regs}
 use Rattle.machine.specs.AsCoded.Listed.{words_listed}
@@ -33,7 +33,7 @@ turned :
     (c : Joined-has) (pc : ℕ) (d : List ℕ)
     → listed (lent c.args.base c.args.stack.now) c.args.list c.loop-x.x
     (regs c.loop-x.r (c.args.base + c.loop-x.o) c.loop-x.back pc d)
-    ≡ ok (regs c.if-has.r (c.args.base + c.if-has.o) c.if-has.back pc d)
+    ≡ Ok (regs c.if-has.r (c.args.base + c.if-has.o) c.if-has.back pc d)
 turned c pc d =
     let l = c.loop-x in
     let a = c.args in
@@ -41,7 +41,7 @@ turned c pc d =
     let has = sym c.has.ensures in
     elim c.if-has.branch [
       | then-has w ↦ listed-word k a.list l.x l.r (a.base + l.o) l.back pc d _ _ _ _ (has ∙ w.if-has.true)
-          (load_at a.base a.stack.now l.o (there a.base a.stack.now a.list a.sp l.o l.x c.requires (has ∙ w.if-has.true) (omega arith) l.invariant.1) ∙ ap ok (sym w.word32_in.ensures))
+          (load_at a.base a.stack.now l.o (there a.base a.stack.now a.list a.sp l.o l.x c.requires (has ∙ w.if-has.true) (omega arith) l.invariant.1) ∙ ap Ok (sym w.word32_in.ensures))
           (w.r-is ∙ w.set_reg-back.ensures.1) (omega (arith, w.o-is)) (w.back-is ∙ w.set_reg-back.ensures.0)
       | else-has w ↦ listed-not k a.list l.x l.r (a.base + l.o) l.back pc d _ _ _ (has ∙ w.if-has.false) w.r-is
           (ap (λ o. a.base + o) w.o-is) w.back-is

@@ -1,9 +1,9 @@
 -- Running the code list that code bytes hold from an index on as it is read. That it is `run` of the codes
 -- that `codes_at` reads is a law (`run-codes` of proofs/Running.antt).
-use Rattle.std.specs.Prelude.{ℕ, List}
+use Rattle.std.specs.Prelude.{ℕ, List, Ok}
 use Rattle.lent.specs.Lent.{Lent}
 use Rattle.words.specs.declared.CodeBytes.{CodeBytes}
-use Rattle.words.specs.Answer.{Res, ok, ◌>>=◌, ◌>>◌}
+use Rattle.words.specs.Answer.{Res, ◌>>=◌, ◌>>◌}
 use Rattle.unwinding.specs.CodeList.{run}
 use Rattle.codes.specs.Code.{scan}
 use Rattle.machine.specs.Step.{step}
@@ -14,4 +14,4 @@ unfoldable pub run_at : Lent → List ℕ → CodeBytes → Regs → Res Regs
 run_at k s i g = do
   h ← run (step k) (scan s i).list g
   (scan s i).ending
-  ok h
+  Ok h

@@ -1,7 +1,6 @@
 -- By whether the writer takes the fields: the sum of fields that fit, or refused. Assumes nothing.
+use Rattle.std.specs.Prelude.{Ok}
 use mathlib.Core.Path.{sym, ap, ◌∙◌}
-use Rattle.words.specs.declared.Verdict.TheVariants.{Given}
-use Rattle.packed.specs.Packed.{word_answer}
 use Rattle.packed.proofs.Words.{fit-true, write-given, write-large, write-not-allowed}
 use Rattle.packed.proofs.write_word.Goals as goal
 use Rattle.packed.proofs.write_word.Goals.{else-fields_fit-via-then-fields_fit+else-allowed, else-fields_fit-via-else-fields_fit}
@@ -18,16 +17,15 @@ word_of-requires c = fit-true c.args.p (sym c.fields_fit.ensures ∙ c.if-fields
 pub returns-then-allowed : goal.returns-then-allowed
 returns-then-allowed c =
     let p = c.args.p in
-    ap (λ w. record { verdict = Given; word = w }) c.word_of.ensures
-    ∙ ap word_answer (sym (write-given p (sym c.fields_fit.ensures ∙ c.if-fields_fit.true) (sym c.allowed.ensures ∙ c.if-allowed.true)))
+    ap Ok c.word_of.ensures
+    ∙ sym (write-given p (sym c.fields_fit.ensures ∙ c.if-fields_fit.true) (sym c.allowed.ensures ∙ c.if-allowed.true))
 
 pub returns : goal.returns
 returns c =
     let p = c.args.p in
     let f = sym c.fields_fit.ensures in
-    ap word_answer
-    (sym
+    sym
     (elim c.else-fields_fit.branch [
       | else-fields_fit-via-then-fields_fit+else-allowed w ↦ write-not-allowed p (sym w.allowed.ensures ∙ w.if-allowed.false)
       | else-fields_fit-via-else-fields_fit w ↦ write-large p (f ∙ w.if-fields_fit.false)
-    ]))
+    ])

@@ -3,7 +3,7 @@ use Rattle.packed_codes.proofs.Written.{second-longer, codes-written}
 use Rattle.packed_codes.proofs.both_lists.Goals as goal
 
 pub overflow_sub-result : goal.overflow_sub-result
-overflow_sub-result c = second-longer _ _ _ c.first_list-one.ensures c.second_list-two.ensures
+overflow_sub-result c = second-longer _ _ _ c.first_list.ensures c.second_list.ensures
 
 pub returns : goal.returns
-returns c = codes-written _ _ _ c.first_list-one.ensures c.second_list-two.ensures
+returns c = codes-written _ _ _ c.first_list.ensures c.second_list.ensures

@@ -5,7 +5,6 @@ use native.Mathlib.Omega.{arith}
 use Rattle.codes.specs.Table.{range}
 use Rattle.codes.proofs.Registers.{from-r4}
 use Rattle.packed_codes.specs.PackedCodes.{up_to}
-use Rattle.packed_codes.specs.AsCoded.Out.{top_of}
 use Rattle.packed_codes.proofs.Pieces.{top-here, top-later, top-none}
 use Rattle.packed_codes.proofs.top_from.Goals as goal
 use Rattle.packed_codes.proofs.top_from.Goals.{After-from_r4}
@@ -28,7 +27,7 @@ mask c = c.from_r4.ensures.0 ∙ sym (from-r4 c.loop-x.x (omega arith) (omega ar
 pub returns-then-list-from_r4 : goal.returns-then-list-from_r4
 returns-then-list-from_r4 c =
     let l = c.loop-x in
-    sym (ap top_of (l.invariant.1 ∙ top-here _ l.x _ c.loop-x-test.true (c.if-list-from_r4.true ∙ mask c.before)))
+    sym (l.invariant.1 ∙ top-here _ l.x _ c.loop-x-test.true (c.if-list-from_r4.true ∙ mask c.before))
 
 pub overflow_step-x : goal.overflow_step-x
 overflow_step-x c = omega arith
@@ -42,4 +41,4 @@ loop-x-preserved c =
     (omega arith, l.invariant.1 ∙ top-later _ l.x _ c.loop-x-test.true (rw (mask c.before) at c.if-list-from_r4.false))
 
 pub returns : goal.returns
-returns c = let l = c.loop-x in sym (ap top_of (l.invariant.1 ∙ top-none _ l.x _ c.loop-x-test.false))
+returns c = let l = c.loop-x in sym (l.invariant.1 ∙ top-none _ l.x _ c.loop-x-test.false)

@@ -1,9 +1,8 @@
--- The loop's invariant: the whole table ascends exactly if the records from i on do, and the last word is record i's. One record, or
--- none, ascends.
+-- The loop's invariant: the whole table ascends exactly if the records from the one before i on do, and the last word is that record's. One
+-- record, or none, ascends.
 -- Assumes nothing.
-use Prim.Native.Nat.{◌-◌, ◌*◌, ◌/◌, ◌≤◌}
+use Prim.Native.Nat.{◌-◌, ◌*◌}
 use mathlib.Core.Path.{◌≡◌}
-use lib.ListN.{length}
 use Rattle.lent.specs.Little.{word32}
 use Rattle.unwinding.specs.View.{ascending as ascending_of}
 use Rattle.pdata.specs.Pdata.{starts}
@@ -11,7 +10,4 @@ use Rattle.pdata.proofs.Finding.{ascending_from}
 use Rattle.pdata.proofs.ascending.Given as goal
 
 abbrev pub invariant-loop-i : goal.invariant-loop-i
-invariant-loop-i l = (l.n ≡ length l.pdata / 8) × (l.i ≤ l.n) × (ascending_of (starts l.pdata) ≡ ascending_from l.pdata l.i l.n) × (l.last ≡ word32 l.pdata (8 * l.i))
-
-abbrev pub decreases-loop-i : goal.decreases-loop-i
-decreases-loop-i l = l.n - l.i
+invariant-loop-i l = (ascending_of (starts l.pdata) ≡ ascending_from l.pdata (l.i - 1) l.n) × (l.last ≡ word32 l.pdata (8 * (l.i - 1)))

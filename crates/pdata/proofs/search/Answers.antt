@@ -1,13 +1,11 @@
 -- The loop's invariant: the record below `low` starts at or below the RVA, and that at `high` above it; where the two meet, an ascending table
 -- has the definition's record there. Assumes nothing.
+use Rattle.std.specs.Prelude.{Some}
 use Prim.Native.Nat.{◌+◌, ◌-◌, ◌*◌, ◌/◌, ◌≤◌}
 use mathlib.Core.Path.{sym, ap, ◌∙◌, ◌≡◌}
 use native.Mathlib.Omega.{arith}
-use Rattle.words.specs.Answer.{ok}
 use Rattle.words.specs.Bits.{even}
 use Rattle.lent.specs.Little.{word32}
-use Rattle.pdata.specs.Pdata.{found}
-use Rattle.pdata.specs.declared.Found.TheVariants.{Record}
 use Rattle.pdata.proofs.Finding.{start_at, found_none, found_some, start-up-to, start-above}
 use Rattle.pdata.proofs.search.Goals as goal
 
@@ -32,12 +30,12 @@ returns-then-low-eq0 c up =
     let a = c.args in
     let l = c.loop-low in
     let z : l.high ≡ 0 = omega arith in
-    ap (λ o. found (ok o)) (sym (found_none a.pdata.now a.rva up (λ q. rw z at (l.invariant.3 (omega arith)))))
+    sym (found_none a.pdata.now a.rva up (λ q. rw z at (l.invariant.3 (omega arith))))
 
 pub returns : goal.returns
 returns c up =
     let a = c.args in
     let l = c.loop-low in
     let e : l.low - 1 + 1 ≡ l.high = omega arith in
-    ap Record c.entry_in.ensures
-    ∙ ap (λ o. found (ok o)) (sym (found_some a.pdata.now a.rva (l.low - 1) (omega arith) up (l.invariant.2 (omega arith)) (λ q. rw e (l.invariant.3 (omega arith)))))
+    ap Some c.entry_in.ensures
+    ∙ sym (found_some a.pdata.now a.rva (l.low - 1) (omega arith) up (l.invariant.2 (omega arith)) (λ q. rw e (l.invariant.3 (omega arith))))

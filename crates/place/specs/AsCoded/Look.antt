@@ -1,25 +1,19 @@
 -- Where an offset stands in a record, as one pass over the record finds it: the epilogues in turn, with what refusal 7 asks of them and
 -- the number of the one that the offset falls into; then the place and the index at which the codes that run there begin. That this is
 -- what `view` and `todo` say is a law (proofs/Placing.antt).
-use Rattle.std.specs.Prelude.{ℕ, ◌+◌, ◌-◌, ◌≤◌, ◌≡◌, List, [], ◌∷◌, Bool, true, false, ◌&&◌, leb, ltb, length, if◌then◌else◌}
-use Rattle.std.proofs.Math.ListN.{get_elem?}
+use Rattle.std.specs.Prelude.{ℕ, ◌+◌, ◌-◌, ◌≤◌, ◌≡◌, List, [], ◌∷◌, Bool, ◌&&◌, leb, ltb, length, if◌then◌else◌, Option, Ok, Err, slice_get}
 use Rattle.words.specs.declared.CodeBytes.{CodeBytes}
 use Rattle.words.specs.declared.Place.{Place}
-use Rattle.words.specs.declared.Place.TheVariants.{Leaf, Prologue, Body, Epilogue}
-use Rattle.words.specs.declared.Refusal.{Refusal}
+use Rattle.words.specs.declared.Place.TheVariants.{Prologue, Body, Epilogue}
 use Rattle.words.specs.declared.Refusal.TheVariants.{BadLayout, InsideInstruction, Conditional}
-use Rattle.words.specs.declared.Verdict.{Verdict}
-use Rattle.words.specs.declared.Verdict.TheVariants.{Given, Refused}
 use Rattle.words.specs.Units.{code_bytes}
-use Rattle.words.specs.Answer.{Res, either, maybe}
+use Rattle.words.specs.Answer.{Res, ◌>>=◌, ◌>>◌, need, maybe}
 use Rattle.unwinding.specs.CodeList.{Codes, total}
 use Rattle.unwinding.specs.Shape.{start_of}
 use Rattle.unwinding.specs.View.{Stretch}
 use Rattle.unwinding.specs.AsCoded.Lined.{reach_of, next}
 use Rattle.unwinding.specs.declared.Scope.{Scope}
 use Rattle.codes.specs.declared.Code.{Code}
-use Rattle.reader.specs.declared.Skipped.{Skipped}
-use Rattle.reader.specs.declared.Skipped.TheVariants.{At, Nowhere}
 use Rattle.codes.specs.Code.{size, codes_at}
 use Rattle.codes.specs.Condition.{executing}
 use Rattle.codes.specs.AsCoded.Rows.{row_numbers}
@@ -27,11 +21,7 @@ use Rattle.reader.specs.AsCoded.Skip.{skip_at}
 use Rattle.record.specs.AsCoded.Plan.{scopes_end}
 use Rattle.record.specs.declared.Plan.{Plan}
 use Rattle.place.specs.declared.EpilogueSpan.{EpilogueSpan}
-use Rattle.place.specs.declared.Measured.{Measured}
-use Rattle.place.specs.declared.Measured.TheVariants.{Bytes, Unread}
 use Rattle.place.specs.declared.Seen.{Seen}
-use Rattle.place.specs.declared.Looked.{Looked}
-use Rattle.place.specs.declared.Looked.TheVariants.{All, Bad}
 use Rattle.place.specs.declared.Passed.{Passed}
 use Rattle.place.specs.declared.Spot.{Spot}
 
@@ -43,12 +33,8 @@ Ready t s p x = (t ≡ row_numbers) × (length s ≤ 1020) × (scopes_end p.scop
 abbrev pub list_size : Codes Code → ℕ
 list_size c = total size c.list + c.end_size
 
-abbrev pub measured : Res (Codes Code) → Measured
-measured r = either r Unread (λ c. Bytes (list_size c))
-
-abbrev pub bytes_in : Measured → ℕ
-bytes_in (Bytes n) = n
-bytes_in (Unread r) = 0
+abbrev pub measured : Res (Codes Code) → Res ℕ
+measured r = r >>= λ c. Ok (list_size c)
 
 -- an epilogue as its codes make it (RULES 5.4)
 abbrev pub span_by : (span : ℕ) → Scope → (size : ℕ) → EpilogueSpan
@@ -75,70 +61,53 @@ abbrev pub unseen : (span prologue n : ℕ) → Seen
 unseen span p n = record { floor = 0; reach = p; fits = leb p span; at = n }
 
 -- the epilogues in turn, over these code bytes, the first of which has this number; 6 stops
-unfoldable pub look_from : (codes : List ℕ) → (span offset number : ℕ) → Seen → List Scope → Looked
-look_from s span o k seen [] = All seen
-look_from s span o k seen (e ∷ es) =
-    either (codes_at s e.index) Bad (λ c. look_from s span o (k + 1) (see span o k seen (epilogue_span span e c)) es)
+unfoldable pub look_from : (codes : List ℕ) → (span offset number : ℕ) → Seen → List Scope → Res Seen
+look_from s span o k seen [] = Ok seen
+look_from s span o k seen (e ∷ es) = codes_at s e.index >>= λ c. look_from s span o (k + 1) (see span o k seen (epilogue_span span e c)) es
 
--- 6 and 7, by what the pass came to
-abbrev pub judged : Looked → Verdict
-judged (Bad r) = Refused r
-judged (All seen) = if seen.fits then Given else Refused BadLayout
-
--- a place, the index of the first code that runs there; a refusal has place leaf and index 0
+-- a place, and the index of the first code that runs there
 abbrev pub spot : Place → CodeBytes → Spot
-spot p i = record { verdict = Given; place = p; index = i }
+spot p i = record { place = p; index = i }
 
-abbrev pub no_spot : Refusal → Spot
-no_spot r = record { verdict = Refused r; place = Leaf; index = code_bytes 0 }
-
-abbrev pub by_skip : Place → Skipped → Spot
-by_skip p (At i) = spot p i
-by_skip p Nowhere = no_spot InsideInstruction
+abbrev pub by_skip : Place → Option CodeBytes → Res Spot
+by_skip p x = maybe x (Err InsideInstruction) (λ i. Ok (spot p i))
 
 -- the codes from an index whose instructions take k bytes are skipped
-abbrev pub skipped : (codes : List ℕ) → Place → CodeBytes → (k : ℕ) → Spot
+abbrev pub skipped : (codes : List ℕ) → Place → CodeBytes → (k : ℕ) → Res Spot
 skipped s p i k = by_skip p (skip_at s i k)
 
 -- in an epilogue (RULES 5.9): 9 before 10
-abbrev pub if_always : (unconditional : Bool) → Skipped → Spot
-if_always true (At i) = spot Epilogue i
-if_always false (At i) = no_spot Conditional
-if_always b Nowhere = no_spot InsideInstruction
+abbrev pub if_always : (unconditional : Bool) → Option CodeBytes → Res Spot
+if_always b x = by_skip Epilogue x >>= λ p. need b Conditional >> Ok p
 
-abbrev pub in_epilogue : (codes : List ℕ) → (offset : ℕ) → EpilogueSpan → Spot
+abbrev pub in_epilogue : (codes : List ℕ) → (offset : ℕ) → EpilogueSpan → Res Spot
 in_epilogue s o w = if_always (executing w.condition) (skip_at s w.index (o - w.start))
 
-abbrev pub in_scope : (codes : List ℕ) → (span offset : ℕ) → Scope → Spot
-in_scope s span o e = either (codes_at s e.index) no_spot (λ c. in_epilogue s o (epilogue_span span e c))
+abbrev pub in_scope : (codes : List ℕ) → (span offset : ℕ) → Scope → Res Spot
+in_scope s span o e = codes_at s e.index >>= λ c. in_epilogue s o (epilogue_span span e c)
 
 -- in the epilogue of a number, or, where none has it, in the body
-abbrev pub in_here : (codes : List ℕ) → (span : ℕ) → List Scope → (offset number : ℕ) → Spot
-in_here s span scopes o k = maybe (get_elem? scopes k) (spot Body (code_bytes 0)) (in_scope s span o)
+abbrev pub in_here : (codes : List ℕ) → (span : ℕ) → List Scope → (offset number : ℕ) → Res Spot
+in_here s span scopes o k = maybe (slice_get scopes k) (Ok (spot Body (code_bytes 0))) (in_scope s span o)
 
 -- 7, and then the place (RULES 5.6)
-abbrev pub in_seen : (codes : List ℕ) → (span : ℕ) → List Scope → (prologue offset : ℕ) → Looked → Spot
-in_seen s span scopes p o (Bad r) = no_spot r
-in_seen s span scopes p o (All seen) =
-    if seen.fits
-    then (if ltb o p then skipped s Prologue (code_bytes 0) (p - o) else in_here s span scopes o seen.at)
-    else no_spot BadLayout
+abbrev pub in_seen : (codes : List ℕ) → (span : ℕ) → List Scope → (offset : ℕ) → Passed → Res Spot
+in_seen s span scopes o q =
+    if q.seen.fits
+    then (if ltb o q.prologue then skipped s Prologue (code_bytes 0) (q.prologue - o) else in_here s span scopes o q.seen.at)
+    else Err BadLayout
 
 -- the prologue's size (RULES 5.3)
 abbrev pub prologue_of : (fragment : Bool) → Codes Code → ℕ
 prologue_of f c = if f then 0 else total size c.list
 
 -- the prologue and the epilogues, once the codes from index 0 are read
-abbrev pub passed_by : (codes : List ℕ) → (span : ℕ) → (fragment : Bool) → List Scope → (offset : ℕ) → Res (Codes Code) → Passed
-passed_by s span f scopes o x =
-    either x (λ r. record { prologue = 0; looked = Bad r })
-    (λ c. record { prologue = prologue_of f c; looked = look_from s span o 0 (unseen span (prologue_of f c) (length scopes)) scopes })
+abbrev pub passed_by : (codes : List ℕ) → (span : ℕ) → (fragment : Bool) → List Scope → (offset : ℕ) → Codes Code → Res Passed
+passed_by s span f scopes o c =
+    look_from s span o 0 (unseen span (prologue_of f c) (length scopes)) scopes >>= λ seen. Ok (record { prologue = prologue_of f c; seen = seen })
 
-abbrev pub passed : (codes : List ℕ) → (span : ℕ) → (fragment : Bool) → List Scope → (offset : ℕ) → Passed
-passed s span f scopes o = passed_by s span f scopes o (codes_at s (code_bytes 0))
+abbrev pub passed : (codes : List ℕ) → (span : ℕ) → (fragment : Bool) → List Scope → (offset : ℕ) → Res Passed
+passed s span f scopes o = codes_at s (code_bytes 0) >>= passed_by s span f scopes o
 
-abbrev pub spot_by : (codes : List ℕ) → (span : ℕ) → List Scope → (offset : ℕ) → Passed → Spot
-spot_by s span scopes o q = in_seen s span scopes q.prologue o q.looked
-
-unfoldable pub spot_of : (codes : List ℕ) → (span : ℕ) → (fragment : Bool) → List Scope → (offset : ℕ) → Spot
-spot_of s span f scopes o = spot_by s span scopes o (passed s span f scopes o)
+unfoldable pub spot_of : (codes : List ℕ) → (span : ℕ) → (fragment : Bool) → List Scope → (offset : ℕ) → Res Spot
+spot_of s span f scopes o = passed s span f scopes o >>= in_seen s span scopes o

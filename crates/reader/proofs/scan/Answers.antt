@@ -1,59 +1,58 @@
--- `reader::scan` meets its contract. A turn takes what stands where the reader is, and adds it to the halfwords found so far: it goes on with
--- `onto`, and where it doesn't it has found what the pass finds.
+-- `reader::scan` meets its contract: a code's halfwords are added, and an end code, or what is no code, ends what the pass finds.
 -- Assumes nothing.
-use mathlib.Core.Path.{◌≡◌, refl, sym, ap, ap₂, ◌∙◌}
-use mathlib.Core.Bool.{Bool, true, false, not}
+use Prim.Native.Nat.{◌+◌}
+use mathlib.Core.Path.{refl, sym, ap, ◌∙◌}
 use native.Mathlib.Omega.{arith}
-use Rattle.codes.specs.Code.{take_at}
+use Rattle.codes.specs.Code.{take_at, scan}
 use Rattle.codes.specs.AsCoded.Sizing.{sized}
-use Rattle.reader.specs.AsCoded.Reading.{turn, past}
-use Rattle.reader.proofs.Passing.{Here, starts, adds, ended, room, onto, nearer}
+use Rattle.reader.specs.AsCoded.Reading.{past, scanned}
+use Rattle.reader.proofs.Passing.{plus, plus_none, found-one, found-last, found-bad, nearer}
 use Rattle.reader.proofs.scan.Goals as goal
 
-is_true : (y : Bool) → not y ≡ false → y ≡ true
-is_true true h = refl
-is_true false h = sym h
+pub loop-n-init : goal.loop-n-init
+loop-n-init c = rw c.new-r.ensures (refl, plus_none (scanned (scan c.args.codes.now c.args.at)), omega arith)
 
-is_false : (y : Bool) → not y ≡ true → y ≡ false
-is_false true h = sym h
-is_false false h = refl
+pub overflow_add-list : goal.overflow_add-list
+overflow_add-list c =
+    let m = c.args.codes.now in
+    let l = c.loop-n in
+    let e = sym (c.take-p.ensures.0 ∙ ap (λ m. sized (take_at m l.r.at)) l.invariant.0) ∙ c.in-One.is in
+    let w = nearer m l.list l.r.at e in
+    omega (arith, w.0, w.1, w.2, l.invariant.2, c.well_formed)
 
-pub loop-p-init : goal.loop-p-init
-loop-p-init c =
-    let a = c.args in
-    let h : Here a.codes.now a.at = record { at = a.at; sum = 0; same = starts a.codes.now a.at; few = omega arith; fits = omega arith; held = omega (arith, c.well_formed) } in
-    rw c.new-r.ensures (h, refl, refl, refl)
+pub returns-in-Last : goal.returns-in-Last
+returns-in-Last c =
+    let m = c.args.codes.now in
+    let l = c.loop-n in
+    let e = sym (c.take-p.ensures.0 ∙ ap (λ m. sized (take_at m l.r.at)) l.invariant.0) ∙ c.in-Last.is in
+    found-last m l.list l.r.at e ∙ l.invariant.1
 
-pub add-u-requires : goal.add-u-requires
-add-u-requires c =
-    let i = c.loop-p.invariant in
-    let taken = c.take-p.ensures.0 ∙ ap₂ (λ m at. sized (take_at m at)) i.1 i.2 in
-    rw (taken, i.3) (room i.0 (omega (arith, c.well_formed)))
+pub returns-in-Bad : goal.returns-in-Bad
+returns-in-Bad c =
+    let m = c.args.codes.now in
+    let l = c.loop-n in
+    let e = sym (c.take-p.ensures.0 ∙ ap (λ m. sized (take_at m l.r.at)) l.invariant.0) ∙ c.in-Bad.is in
+    found-bad m l.list l.r.at e ∙ l.invariant.1
 
-pub loop-p-smaller : goal.loop-p-smaller
-loop-p-smaller c =
-    let i = c.loop-p.invariant in
-    let there = ap₂ (λ m at. sized (take_at m at)) i.1 i.2 in
-    let turned = c.add-u.ensures ∙ ap₂ turn (c.take-p.ensures.0 ∙ there) i.3 in
-    let less = nearer i.0 (omega (arith, c.well_formed)) (ap (λ u. u.on) (sym turned) ∙ is_true _ c.if-not-u.false) in
-    let rest = ap (λ r. r.at.0) c.take-p.ensures.1 ∙ ap₂ (λ t at. (past t at).0) there i.2 in
-    omega (arith, less, rest, ap (λ x. x.0) i.2)
+pub loop-n-smaller : goal.loop-n-smaller
+loop-n-smaller c =
+    let m = c.args.codes.now in
+    let l = c.loop-n in
+    let here = ap (λ m. sized (take_at m l.r.at)) l.invariant.0 in
+    let e = sym (c.take-p.ensures.0 ∙ here) ∙ c.in-One.is in
+    let w = nearer m l.list l.r.at e in
+    let rest = ap (λ r. r.at.0) c.take-p.ensures.1 ∙ ap (λ t. (past t l.r.at).0) (sym c.take-p.ensures.0 ∙ c.in-One.is) in
+    omega (arith, w.0, w.1, rest)
 
-pub loop-p-preserved : goal.loop-p-preserved
-loop-p-preserved c =
-    let i = c.loop-p.invariant in
-    let there = ap₂ (λ m at. sized (take_at m at)) i.1 i.2 in
-    let turned = c.add-u.ensures ∙ ap₂ turn (c.take-p.ensures.0 ∙ there) i.3 in
-    let on = ap (λ u. u.on) (sym turned) ∙ is_true _ c.if-not-u.false in (
-      onto i.0 (omega (arith, c.well_formed)) on,
-      ap (λ r. r.codes.now) c.take-p.ensures.1 ∙ i.1,
-      ap (λ r. r.at) c.take-p.ensures.1 ∙ ap₂ past there i.2,
-      ap (λ u. u.found) turned ∙ adds i.0.sum _ on,
+pub loop-n-preserved : goal.loop-n-preserved
+loop-n-preserved c =
+    let m = c.args.codes.now in
+    let l = c.loop-n in
+    let i = l.invariant in
+    let e = sym (c.take-p.ensures.0 ∙ ap (λ m. sized (take_at m l.r.at)) i.0) ∙ c.in-One.is in
+    let w = nearer m l.list l.r.at e in
+    let rest = ap (λ r. r.at) c.take-p.ensures.1 ∙ ap (λ t. past t l.r.at) (sym c.take-p.ensures.0 ∙ c.in-One.is) in (
+      ap (λ r. r.codes.now) c.take-p.ensures.1 ∙ i.0,
+      ap (λ at. plus (l.list + c.in-One.n.0) (scanned (scan m at))) rest ∙ found-one m l.list l.r.at e ∙ i.1,
+      omega (arith, w.0, w.2, i.2, ap (λ at. at.0) rest),
     )
-
-pub returns : goal.returns
-returns c =
-    let i = c.loop-p.invariant in
-    let there = ap₂ (λ m at. sized (take_at m at)) i.1 i.2 in
-    let turned = c.add-u.ensures ∙ ap₂ turn (c.take-p.ensures.0 ∙ there) i.3 in
-    ap (λ u. u.found) turned ∙ ended i.0 (ap (λ u. u.on) (sym turned) ∙ is_false _ c.if-not-u.true)

@@ -7,7 +7,7 @@ use Rattle.words.specs.Units.{code_bytes, halfword_bytes}
 use Rattle.unwinding.proofs.Scanning.{take_next}
 use Rattle.unwinding.proofs.Skipping.{skip-none, skip-one, skip-inside, skip-last, skip-bad}
 use Rattle.codes.specs.Code.{size}
-use Rattle.reader.specs.AsCoded.Skip.{shown, skip_at}
+use Rattle.reader.specs.AsCoded.Skip.{skip_at}
 use Rattle.codes.proofs.Scanning.{takes}
 use Rattle.codes.proofs.Sizing.{told-one, told-last, told-bad}
 use Rattle.reader.proofs.skip.Goals as goal
@@ -18,7 +18,7 @@ returns-then-left-size c =
     let l = c.loop-left in
     let w = told-one m (code_bytes l.i) (sym c.size_at-c.ensures ∙ c.in-One.is) in
     let z = c.halfword_bytes-size.ensures.0 ∙ ap halfword_bytes (sym w.2) in
-    sym (ap shown (skip-inside size takes m l.i l.left c.loop-left-test.true w.1 (subst (λ x. l.left < x) z c.if-left-size.true)))
+    sym (skip-inside size takes m l.i l.left c.loop-left-test.true w.1 (subst (λ x. l.left < x) z c.if-left-size.true))
     ∙ l.invariant
 
 pub loop-left-smaller : goal.loop-left-smaller
@@ -36,7 +36,7 @@ loop-left-preserved c =
     let w = told-one m (code_bytes l.i) (sym c.size_at-c.ensures ∙ c.in-One.is) in
     let z = c.halfword_bytes-size.ensures.0 ∙ ap halfword_bytes (sym w.2) in
     ap (λ x. skip_at m c.in-One.next (l.left - x)) z
-    ∙ sym (ap shown (skip-one size takes m l.i l.left c.loop-left-test.true w.1 (subst (λ x. x ≤ l.left) z c.if-left-size.false)))
+    ∙ sym (skip-one size takes m l.i l.left c.loop-left-test.true w.1 (subst (λ x. x ≤ l.left) z c.if-left-size.false))
     ∙ l.invariant
 
 pub returns-in-Last : goal.returns-in-Last
@@ -44,17 +44,17 @@ returns-in-Last c =
     let m = c.args.codes.now in
     let l = c.loop-left in
     let w = told-last m (code_bytes l.i) (sym c.size_at-c.ensures ∙ c.in-Last.is) in
-    sym (ap shown (skip-last size takes m l.i l.left c.loop-left-test.true w)) ∙ l.invariant
+    sym (skip-last size takes m l.i l.left c.loop-left-test.true w) ∙ l.invariant
 
 pub returns-in-Bad : goal.returns-in-Bad
 returns-in-Bad c =
     let m = c.args.codes.now in
     let l = c.loop-left in
     let w = told-bad m (code_bytes l.i) (sym c.size_at-c.ensures ∙ c.in-Bad.is) in
-    sym (ap shown (skip-bad size takes m l.i l.left c.loop-left-test.true w)) ∙ l.invariant
+    sym (skip-bad size takes m l.i l.left c.loop-left-test.true w) ∙ l.invariant
 
 pub returns : goal.returns
 returns c =
     let m = c.args.codes.now in
     let l = c.loop-left in
-    sym (ap (skip_at m (code_bytes l.i)) c.loop-left-test.false ∙ ap shown (skip-none size takes m l.i)) ∙ l.invariant
+    sym (ap (skip_at m (code_bytes l.i)) c.loop-left-test.false ∙ skip-none size takes m l.i) ∙ l.invariant

@@ -6,6 +6,3 @@ use Rattle.regions.proofs.clear_of.Given as goal
 
 abbrev pub invariant-loop-k : goal.invariant-loop-k
 invariant-loop-k l = clear l.r (regions_from l.xdata l.first l.from (l.n - l.from)) ≡ clear l.r (regions_from l.xdata l.first l.k (l.n - l.k))
-
-abbrev pub decreases-loop-k : goal.decreases-loop-k
-decreases-loop-k l = l.n - l.k

@@ -6,6 +6,3 @@ use Rattle.regions.proofs.sound.Given as goal
 
 abbrev pub invariant-loop-k : goal.invariant-loop-k
 invariant-loop-k l = sound (regions_from l.xdata l.first 0 l.n) ≡ sound (regions_from l.xdata l.first l.k (l.n - l.k))
-
-abbrev pub decreases-loop-k : goal.decreases-loop-k
-decreases-loop-k l = l.n - l.k

@@ -18,14 +18,14 @@ overflow_add-at c =
     let i = inside (lent a.rva a.xdata.now) a.at 4 h in
     record { fits = omega (arith, i.1) }
 
-pub returns-then-n-le64 : goal.returns-then-n-le64
-returns-then-n-le64 c =
+pub returns-then-n-le-MOST_REGIONS : goal.returns-then-n-le-MOST_REGIONS
+returns-then-n-le-MOST_REGIONS c =
     let a = c.args in
     let h = sym c.holds.ensures ∙ c.if-not-holds.false in
-    c.holds-then-n-le64.ensures ∙ lent-by-count (lent a.rva a.xdata.now) a.at _ c.word_at-n.ensures h c.if-n-le64.true
+    c.holds-then-n-le-MOST_REGIONS.ensures ∙ lent-by-count (lent a.rva a.xdata.now) a.at _ c.word_at-n.ensures h c.if-n-le-MOST_REGIONS.true
 
-pub returns-else-n-le64 : goal.returns-else-n-le64
-returns-else-n-le64 c =
+pub returns-else-n-le-MOST_REGIONS : goal.returns-else-n-le-MOST_REGIONS
+returns-else-n-le-MOST_REGIONS c =
     let a = c.args in
     let h = sym c.holds.ensures ∙ c.if-not-holds.false in
-    lt-leb _ 64 c.if-n-le64.false ∙ lent-many (lent a.rva a.xdata.now) a.at _ c.word_at-n.ensures h c.if-n-le64.false
+    lt-leb _ 64 c.if-n-le-MOST_REGIONS.false ∙ lent-many (lent a.rva a.xdata.now) a.at _ c.word_at-n.ensures h c.if-n-le-MOST_REGIONS.false

@@ -1,6 +1,6 @@
--- The loop's invariant: the registers below `i` are right. The measure is what is left of 32.
+-- The loop's invariant: the registers below `i` are right.
 -- Assumes nothing.
-use Prim.Native.Nat.{ℕ, ◌+◌, ◌-◌, ◌*◌, ◌≤◌, ◌<◌}
+use Prim.Native.Nat.{ℕ, ◌+◌, ◌*◌, ◌<◌}
 use mathlib.Core.Path.{◌≡◌}
 use lib.ListN.{length, get_or}
 use Rattle.lent.specs.Little.{word64}
@@ -8,7 +8,4 @@ use Rattle.report.proofs.doubles.Given as goal
 
 abbrev pub invariant-loop-i : goal.invariant-loop-i
 invariant-loop-i l =
-    (l.i ≤ 32) × (length l.d ≡ 32) × ((k : ℕ) → k < l.i → get_or l.d k 0 ≡ word64 l.file (96 + 8 * k))
-
-abbrev pub decreases-loop-i : goal.decreases-loop-i
-decreases-loop-i l = 32 - l.i
+    (length l.d ≡ 32) × ((k : ℕ) → k < l.i → get_or l.d k 0 ≡ word64 l.file (96 + 8 * k))

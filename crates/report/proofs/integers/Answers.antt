@@ -1,21 +1,11 @@
--- The loop's invariant: the registers below `i` are right. The measure is what is left of 13.
+-- The registers below 13 are all.
 -- Assumes nothing.
-use Prim.Native.Nat.{◌+◌, ◌*◌}
 use mathlib.Core.Path.{◌≡◌}
-use lib.ListN.{length-set}
 use native.Mathlib.Omega.{arith}
-use Rattle.lent.specs.Little.{word32}
-use Rattle.report.proofs.Files.{stored, words32-is}
+use Rattle.report.proofs.Files.{words32-is}
 use Rattle.report.proofs.integers.Goals as goal
-
-pub loop-i-init : goal.loop-i-init
-loop-i-init c = (omega arith, omega arith, λ k h. absurd (omega arith))
-
-pub loop-i-preserved : goal.loop-i-preserved
-loop-i-preserved c =
-    (omega arith, simp length-set (omega arith), stored (λ k. word32 c.args.file.now (32 + 4 * k)) c.loop-i.r c.loop-i.i (omega arith) c.loop-i.invariant.2 c.word32_in-word.ensures)
 
 pub returns : goal.returns
 returns c =
     let e : c.loop-i.i ≡ 13 = omega arith in
-    words32-is c.args.file.now 32 13 c.loop-i.r c.loop-i.invariant.1 (λ k h. c.loop-i.invariant.2 k (omega arith))
+    words32-is c.args.file.now 32 13 c.loop-i.r c.loop-i.invariant.0 (λ k h. c.loop-i.invariant.1 k (omega arith))

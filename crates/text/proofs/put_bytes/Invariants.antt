@@ -1,12 +1,8 @@
--- The loop's invariant: the first `i` bytes are laid. The measure is what is left of them.
+-- The loop's invariant: the bytes gone through are laid.
 -- Assumes nothing.
-use Prim.Native.Nat.{◌-◌, ◌≤◌}
-use lib.ListN.{length, take}
+use lib.ListN.{take}
 use Rattle.text.specs.Overlay.{Laid}
 use Rattle.text.proofs.put_bytes.Given as goal
 
-abbrev pub invariant-loop-i : goal.invariant-loop-i
-invariant-loop-i l = (l.i ≤ length l.s) × Laid l.initial.out l.at (take l.i l.s) l.next l.out
-
-abbrev pub decreases-loop-i : goal.decreases-loop-i
-decreases-loop-i l = length l.s - l.i
+abbrev pub invariant-loop-b : goal.invariant-loop-b
+invariant-loop-b l = Laid l.initial.out l.at (take l.b-index l.s) l.next l.out

@@ -1,4 +1,5 @@
--- The loop's invariant: n is how many of the registers passed are in the list. The measure is how many are left. Assumes nothing.
+-- The loop's invariant: n is how many of the registers passed are in the list.
+-- Assumes nothing.
 use Prim.Native.Nat.{◌+◌}
 use mathlib.Core.Path.{◌≡◌, sym, ap, ◌∙◌}
 use native.Mathlib.Numerals.{add-one}
@@ -9,17 +10,11 @@ use Rattle.thumb.proofs.Counts.{none, more}
 use Rattle.thumb.proofs.count.Goals as goal
 
 pub loop-i-init : goal.loop-i-init
-loop-i-init c = (omega arith, omega arith, sym (none _))
+loop-i-init c = (omega arith, sym (none _))
 
 pub loop-i-preserved : goal.loop-i-preserved
 loop-i-preserved c =
     let l = c.loop-i in
     let list = c.args.list in
-    let e : l.n + c.bits-n.result ≡ count list l.i + bits l.i 1 list = omega (arith, l.invariant.2) in
-    (omega arith, omega arith, e ∙ sym (more list l.i) ∙ ap (count list) (sym (add-one l.i)))
-
-pub returns : goal.returns
-returns c =
-    let l = c.loop-i in
-    let all : l.i ≡ 16 = omega arith in
-    l.invariant.2 ∙ ap (count c.args.list) all
+    let e : l.n + c.bits-n.result ≡ count list l.i + bits l.i 1 list = omega (arith, l.invariant.1) in
+    (omega arith, e ∙ sym (more list l.i) ∙ ap (count list) (sym (add-one l.i)))

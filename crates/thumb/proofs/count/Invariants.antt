@@ -1,11 +1,9 @@
--- The loop's invariant: n is how many of the registers passed are in the list. The measure is how many are left. Assumes nothing.
-use Prim.Native.Nat.{◌≤◌, ◌-◌}
+-- The loop's invariant: n is how many of the registers passed are in the list.
+-- Assumes nothing.
+use Prim.Native.Nat.{◌≤◌}
 use mathlib.Core.Path.{◌≡◌}
 use Rattle.thumb.specs.Rows.{count}
 use Rattle.thumb.proofs.count.Given as goal
 
 abbrev pub invariant-loop-i : goal.invariant-loop-i
-invariant-loop-i l = (l.i ≤ 16) × (l.n ≤ l.i) × (l.n ≡ count l.list l.i)
-
-abbrev pub decreases-loop-i : goal.decreases-loop-i
-decreases-loop-i l = 16 - l.i
+invariant-loop-i l = (l.n ≤ l.i) × (l.n ≡ count l.list l.i)

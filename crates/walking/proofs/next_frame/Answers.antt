@@ -1,21 +1,28 @@
--- `walking::next_frame` meets its contract: what `frame_in` came to stays as it is but where 13 is given.
+-- What `frame_in` came to stays as it is but where 13 is given.
 -- Assumes nothing.
-use borrow.Author.Tests.{eq-eqb, ne_eqb}
-use Rattle.walking.proofs.Next.{first-stays, refused-stays, other-stays, same-is-13}
+use mathlib.Core.Path.{sym, ap, ◌∙◌}
+use Rattle.std.proofs.lemmas.Result.{err_from_is_err_and}
+use Rattle.frame.specs.AsCoded.InPlace.{came_to}
+use Rattle.walking.proofs.Next.{refused-stays, first-stays, other-stays, same-is-13}
+use Rattle.walking.proofs.next_frame.Goals.{else-not-first-via-then-not-first+else-u-sp, else-not-first-via-else-not-first}
 use Rattle.walking.proofs.next_frame.Goals as goal
 
-pub returns-then-first : goal.returns-then-first
-returns-then-first c = let u = c.frame_in-u in first-stays _ _ _ u.result u.new.r u.new.d (u.ensures c.requires.1) c.if-first.true
-
-pub returns-in-Refused : goal.returns-in-Refused
-returns-in-Refused c = let u = c.frame_in-u in refused-stays _ _ _ u.result u.new.r u.new.d (u.ensures c.requires.1) _ c.in-Refused.is
+pub returns-in_err-u : goal.returns-in_err-u
+returns-in_err-u c =
+    let u = c.frame_in in
+    let p = err_from_is_err_and c.from_residual.result c.from_residual.ensures.1 in
+    rw (p.1, p.2) (refused-stays _ _ _ _ (sym (ap (λ x. came_to x u.new.r u.new.d) c.in_err-u.was) ∙ u.ensures c.requires.1))
 
 pub returns-then-u-sp : goal.returns-then-u-sp
 returns-then-u-sp c =
-    let u = c.frame_in-u in
-    same-is-13 _ _ _ u.result u.new.r u.new.d (u.ensures c.requires.1) c.if-first.false c.in-Given.is (eq-eqb _ _ c.if-u-sp.true)
+    let u = c.frame_in in
+    same-is-13 _ _ _ c.in_ok-u.u u.new.r u.new.d (sym (ap (λ x. came_to x u.new.r u.new.d) c.in_ok-u.was) ∙ u.ensures c.requires.1) c.if-not-first.true c.if-u-sp.true
 
-pub returns-else-u-sp : goal.returns-else-u-sp
-returns-else-u-sp c =
-    let u = c.frame_in-u in
-    other-stays _ _ _ u.result u.new.r u.new.d (u.ensures c.requires.1) c.if-first.false c.in-Given.is (ne_eqb _ _ c.if-u-sp.false)
+pub returns : goal.returns
+returns c =
+    let u = c.frame_in in
+    let is = sym (ap (λ x. came_to x u.new.r u.new.d) c.in_ok-u.was) ∙ u.ensures c.requires.1 in
+    elim c.else-not-first.branch [
+      | else-not-first-via-then-not-first+else-u-sp w ↦ other-stays _ _ _ c.in_ok-u.u u.new.r u.new.d is w.if-not-first.true w.if-u-sp.false
+      | else-not-first-via-else-not-first w ↦ first-stays _ _ _ c.in_ok-u.u u.new.r u.new.d is w.if-not-first.false
+    ]

@@ -6,9 +6,9 @@ use Rattle.walking.specs.declared.Frame.{Frame}
 use Rattle.walking.proofs.Loop.{Midway}
 use Rattle.walking.proofs.walk.Given as goal
 
-abbrev pub invariant-loop-t : goal.invariant-loop-t
-invariant-loop-t l =
+abbrev pub invariant-loop-stop : goal.invariant-loop-stop
+invariant-loop-stop l =
     (left : ℕ) × (fs : List Frame) × Midway (inputs l.image l.pdata l.rva l.xdata l.base l.stack) l.fn.g l.initial.list left l.s fs l.list
 
-abbrev pub decreases-loop-t : goal.decreases-loop-t
-decreases-loop-t l = length l.list - l.s.frames
+abbrev pub decreases-loop-stop : goal.decreases-loop-stop
+decreases-loop-stop l = length l.list - l.s.frames

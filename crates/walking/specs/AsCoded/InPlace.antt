@@ -1,8 +1,7 @@
 -- The walk by turns (unwinding/specs/AsCoded/Turn.antt) in place: r0-r12 and d0-d31 are lent from above. That the turns come to `walk` is a
 -- law there; that these are those turns is what the contracts say.
-use Rattle.std.specs.Prelude.{ℕ, ◌+◌, ◌≡◌, List, true, false, eqb}
+use Rattle.std.specs.Prelude.{ℕ, ◌+◌, ◌≡◌, List, true, eqb, Result, Ok, Err}
 use Rattle.words.specs.Bits.{even}
-use Rattle.words.specs.declared.Place.TheVariants.{Leaf}
 use Rattle.unwinding.specs.AsCoded.Turn as General
 use Rattle.machine.specs.AsCoded.Answers.{regs}
 use Rattle.frame.specs.declared.Came.{Came}
@@ -17,14 +16,9 @@ use Rattle.walking.specs.Walk.{arm, frames}
 abbrev pub stands : Standing → (r d : List ℕ) → General.Standing arm
 stands s r d = record { at = regs r s.sp s.lr s.pc d; end = s.end; frames = s.frames; codes = s.codes }
 
--- no further; a frame unwound
-abbrev pub halted_in : Standing → Stop → Going
-halted_in s x = record { on = false; stop = x; frame = record { pc = even s.pc; sp = s.sp; place = Leaf }; next = s }
-
+-- a frame unwound
 abbrev pub gone_in : Standing → Came → Going
 gone_in s u = record {
-  on = true;
-  stop = Full;
   frame = record { pc = even s.pc; sp = s.sp; place = u.place };
   next = record { sp = u.sp; lr = u.lr; pc = even u.lr; end = eqb (even u.lr) 0; frames = s.frames + 1; codes = s.codes + u.codes };
 }
@@ -33,9 +27,11 @@ gone_in s u = record {
 abbrev pub SmallIn : General.Standing arm → Type 0
 SmallIn s = General.Small arm 1020 s
 
--- a turn in place does what a turn of the walk does; where it does not go on, the lists do not count
-pub record Goes (t : Inputs) (room : ℕ) (s : General.Standing arm) (x : Going) (r d : List ℕ) : Type 0 where
-  pub on : x.on ≡ (General.turn_of arm (frames t) room s).on
-  pub stop : x.stop ≡ (General.turn_of arm (frames t) room s).stop
-  pub frame : x.frame ≡ (General.turn_of arm (frames t) room s).frame
-  pub next : x.on ≡ true → stands x.next r d ≡ (General.turn_of arm (frames t) room s).next
+-- a turn in place as the walk's: it goes on, with the lists as they then stand, or stops, and they do not count
+abbrev pub turning_in : General.Standing arm → Result Going Stop → (r d : List ℕ) → General.Turn arm
+turning_in s (Ok g) r d = record { on = true; stop = Full; frame = g.frame; next = stands g.next r d }
+turning_in s (Err z) r d = General.halted arm s z
+
+-- it does what a turn of the walk does
+abbrev pub Goes : (t : Inputs) (room : ℕ) (s : General.Standing arm) (x : Result Going Stop) (r d : List ℕ) → Type 0
+Goes t room s x r d = turning_in s x r d ≡ General.turn_of arm (frames t) room s

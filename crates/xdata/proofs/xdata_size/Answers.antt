@@ -1,33 +1,32 @@
--- By the fit and by the head's verdict; a head that is given is small, so its size fits. Assumes nothing.
+-- By the fit and by the head; a head that is given is small, so its size fits. Assumes nothing.
 use Prim.Native.Nat.{◌-◌, ◌%◌}
 use mathlib.Core.Path.{sym, ap, ◌∙◌}
 use native.Mathlib.Omega.{arith}
+use Rattle.std.specs.Prelude.{Ok}
+use Rattle.std.proofs.lemmas.Result.{err_from_is_err_and}
 use Rattle.lent.specs.Lent.{lent}
-use Rattle.xdata.specs.Xdata.{size_answer, head_at}
-use Rattle.xdata.proofs.Heads.{read-given, read-refused, head_small, small-record, size-unfit, size-given, size-refused}
+use Rattle.xdata.proofs.Heads.{head_small, small-record, size-unfit, size-given, size-refused}
 use Rattle.xdata.proofs.xdata_size.Goals as goal
 
 pub returns-then-not-fit : goal.returns-then-not-fit
-returns-then-not-fit c =
-    let a = c.args in
-    c.no_size.ensures
-    ∙ ap size_answer (sym (size-unfit (lent a.rva a.xdata.now) a.at (sym c.fit.ensures ∙ c.if-not-fit.true)))
+returns-then-not-fit c = sym (size-unfit _ _ (sym c.fit.ensures ∙ c.if-not-fit.true))
 
-pub size_of-requires : goal.size_of-requires
-size_of-requires c =
+pub returns-in_err-head : goal.returns-in_err-head
+returns-in_err-head c =
     let a = c.args in
-    let h = c.head_at-read.result.head in
-    omega (arith, small-record (lent a.rva a.xdata.now) (a.at - a.at % 4) h (head_small (lent a.rva a.xdata.now) (a.at - a.at % 4) h (read-given (head_at (lent a.rva a.xdata.now) (a.at - a.at % 4)) c.head_at-read.result c.head_at-read.ensures c.in-Given.is)))
+    let p = err_from_is_err_and c.from_residual.result c.from_residual.ensures.1 in
+    rw (p.1, p.2) (sym (size-refused (lent a.rva a.xdata.now) a.at _ (sym c.fit.ensures ∙ c.if-not-fit.false) (sym c.in_err-head.ensures)))
 
-pub returns-in-Given : goal.returns-in-Given
-returns-in-Given c =
+pub overflow_cast-result : goal.overflow_cast-result
+overflow_cast-result c =
     let a = c.args in
-    let h = c.head_at-read.result.head in
-    c.size_of.ensures
-    ∙ ap size_answer (sym (size-given (lent a.rva a.xdata.now) a.at h (sym c.fit.ensures ∙ c.if-not-fit.false) (read-given (head_at (lent a.rva a.xdata.now) (a.at - a.at % 4)) c.head_at-read.result c.head_at-read.ensures c.in-Given.is)))
+    let x = lent a.rva a.xdata.now in
+    let at = a.at - a.at % 4 in
+    let h = c.in_ok-head.head in
+    record { fits = omega (arith, c.record_bytes.ensures, small-record x at h (head_small x at h (sym c.in_ok-head.ensures))) }
 
-pub returns-in-Refused : goal.returns-in-Refused
-returns-in-Refused c =
+pub returns : goal.returns
+returns c =
     let a = c.args in
-    c.no_size-in-Refused.ensures
-    ∙ ap size_answer (sym (size-refused (lent a.rva a.xdata.now) a.at _ (sym c.fit.ensures ∙ c.if-not-fit.false) (read-refused (head_at (lent a.rva a.xdata.now) (a.at - a.at % 4)) c.head_at-read.result _ c.head_at-read.ensures c.in-Refused.is)))
+    ap Ok c.record_bytes.ensures
+    ∙ sym (size-given (lent a.rva a.xdata.now) a.at _ (sym c.fit.ensures ∙ c.if-not-fit.false) (sym c.in_ok-head.ensures))
