@@ -5,7 +5,7 @@
 pub mod list;
 mod table;
 
-ghost use Rattle.std.specs.Prelude.{◌≡◌, ◌+◌, ◌≤◌, ◌<◌, length, take, drop, get_or, ◌||◌, leb, eqb, if◌then◌else◌};
+ghost use Rattle.std.specs.Prelude.{◌≡◌, ◌+◌, ◌≤◌, ◌<◌, length, take, drop, get_or, ◌||◌, leb, eqb, if◌then◌else◌, List, ℕ};
 ghost use Rattle.words.specs.Units.{code_bytes as spec_code_bytes, stack_words};
 ghost use Rattle.codes.specs.Table.{row_of as spec_row_of, lr_if as spec_lr_if};
 ghost use Rattle.codes.specs.AsCoded.Rows.{entry_of, row_numbers};
@@ -13,6 +13,7 @@ ghost use Rattle.codes.specs.AsCoded.Sizing.{sized, fitting};
 ghost use Rattle.codes.specs.Code.{value as value_of, taken as taken_of, take_at as spec_take_at};
 
 use list::{from_r4, lr_if};
+use std::marker::Model;
 use words::{CodeBytes, Halfwords, StackWords, bit, bits};
 
 // What a code undoes. Lists of registers are those of list.rt. All payloads have one width, and so one place: the compiler then keeps a code
@@ -73,20 +74,36 @@ pub fn instruction_size(b: u8) -> Halfwords
     Halfwords((table::ROWS[b as usize] / 8 % 4) as u32)
 }
 
-// The table itself, to be lent to whoever goes over many codes: a constant array is laid on the stack anew wherever it is indexed. What is
-// lent it asks for this table and no other (`requires`), which its caller has from here.
-pub fn row_table() -> [u8; 256]
-    ensures { result ≡ row_numbers }
-{
-    table::ROWS
+// The table itself, to be lent to whoever goes over many codes: a constant array is laid on the stack anew wherever it is indexed. The type
+// says that it is this table and no other.
+#[derive(Drop)]
+pub struct RowTable {
+    entries: [u8; 256],
 }
 
-// A first byte's entry of the table that is lent.
-fn row_of(t: &[u8; 256], b: u8) -> u8
-    requires { t.now ≡ row_numbers }
-    ensures { result ≡ entry_of b }
-{
-    t[b as usize]
+impl Model for RowTable {
+    ghost Value = { List ℕ };
+
+    ghost view = { λ t. t.entries };
+
+    ghost invariant = { λ t. t.entries ≡ row_numbers };
+}
+
+impl RowTable {
+    pub fn new() -> RowTable
+        ensures { result ≡ row_numbers }
+    {
+        RowTable {
+            entries: table::ROWS,
+        }
+    }
+
+    // A first byte's entry.
+    fn of(&self, b: u8) -> u8
+        ensures { result ≡ entry_of b }
+    {
+        self.entries[b as usize]
+    }
 }
 
 // SP rises by n words.
@@ -201,9 +218,8 @@ fn take_as(b: u8, size: Halfwords, v: u32, at: CodeBytes, next: CodeBytes) -> Ta
     }
 }
 
-// The code at an index of the code bytes. The table is lent: `t` is what `row_table` gives.
-pub fn take_at(t: &[u8; 256], codes: &[u8], at: CodeBytes) -> Taken<Code>
-    requires { t.now ≡ row_numbers }
+// The code at an index of the code bytes. The table is lent.
+pub fn take_at(t: &RowTable, codes: &[u8], at: CodeBytes) -> Taken<Code>
     ensures { result ≡ spec_take_at codes.now at }
 {
     let i = at.0;
@@ -211,7 +227,7 @@ pub fn take_at(t: &[u8; 256], codes: &[u8], at: CodeBytes) -> Taken<Code>
         return Taken::Bad(at);
     }
     let b = codes[i];
-    let row = row_of(t, b);
+    let row = t.of(b);
     let n = (row % 8) as usize;
     if codes.len() - i < n {
         return Taken::Bad(CodeBytes(codes.len()));
@@ -260,15 +276,14 @@ fn size_as(row: u8, codes: &[u8], at: CodeBytes) -> Taken<Halfwords>
 }
 
 // The code at an index without what it undoes, which going over a list does not need: the entry's sort says what it is.
-pub fn size_at(t: &[u8; 256], codes: &[u8], at: CodeBytes) -> Taken<Halfwords>
-    requires { t.now ≡ row_numbers }
+pub fn size_at(t: &RowTable, codes: &[u8], at: CodeBytes) -> Taken<Halfwords>
     ensures { result ≡ sized (spec_take_at codes.now at) }
 {
     let i = at.0;
     if codes.len() <= i {
         return Taken::Bad(at);
     }
-    let row = row_of(t, codes[i]);
+    let row = t.of(codes[i]);
     if codes.len() - i < (row % 8) as usize {
         return Taken::Bad(CodeBytes(codes.len())); // cut short
     }

@@ -5,11 +5,10 @@
 ghost use Rattle.std.specs.Prelude.{◌≡◌, ◌+◌, ◌*◌, ◌^◌, ◌<◌, length, if◌then◌else◌, Ok};
 ghost use Rattle.words.specs.Units.{code_bytes, halfword_bytes as spec_halfword_bytes};
 ghost use Rattle.unwinding.specs.CodeList.{total};
-ghost use Rattle.codes.specs.AsCoded.Rows.{row_numbers};
 ghost use Rattle.comparing.specs.Items.{size_of, scan_coded, differs};
 ghost use Rattle.comparing.specs.AsCoded.Passes as P;
 
-use codes::{Taken, size_at, take_at};
+use codes::{RowTable, Taken, size_at, take_at};
 use expected::Expected;
 use words::{CodeBytes, Halfwords, halfword_bytes};
 
@@ -33,8 +32,8 @@ fn noted(found: Result<(), Differs>, met: bool, at: u64) -> Result<(), Differs>
 
 // The first instruction of a prologue that is not the one of its code. Its codes are those from index 0, whose instructions take so many
 // bytes: the first code's stands last. The table of codes is lent.
-pub fn prologue(t: &[u8; 256], codes: &[u8], code: &[u8], size: u64) -> Result<(), Differs>
-    requires { (t.now ≡ row_numbers) × (size ≡ total size_of (scan_coded codes.now (code_bytes 0)).list) }
+pub fn prologue(t: &RowTable, codes: &[u8], code: &[u8], size: u64) -> Result<(), Differs>
+    requires { size ≡ total size_of (scan_coded codes.now (code_bytes 0)).list }
     ensures { result ≡ P.prologue_pass code.now (scan_coded codes.now (code_bytes 0)).list (Ok tt) }
 {
     let mut found = Ok(());
@@ -62,8 +61,7 @@ pub fn prologue(t: &[u8; 256], codes: &[u8], code: &[u8], size: u64) -> Result<(
 }
 
 // Whether FF stands at an index.
-fn returns_at(t: &[u8; 256], codes: &[u8], at: CodeBytes) -> bool
-    requires { t.now ≡ row_numbers }
+fn returns_at(t: &RowTable, codes: &[u8], at: CodeBytes) -> bool
     ensures { result ≡ P.last_of (scan_coded codes.now at).list (scan_coded codes.now at).ending }
 {
     match size_at(t, codes, at) {
@@ -85,13 +83,13 @@ fn end_at(code: &[u8], at: u64, size: Halfwords) -> Result<(), Differs>
 
 // The same of an epilogue from an offset on, whose codes are those from an index: the first code's instruction stands first.
 pub fn epilogue(
-    t: &[u8; 256],
+    t: &RowTable,
     codes: &[u8],
     index: CodeBytes,
     code: &[u8],
     start: u64,
 ) -> Result<(), Differs>
-    requires { (t.now ≡ row_numbers) × (start + 4 * length codes.now < 2 ^ 64) }
+    requires { start + 4 * length codes.now < 2 ^ 64 }
     ensures { result ≡ P.epilogue_pass code.now start (scan_coded codes.now index).list (scan_coded codes.now index).ending }
 {
     let mut at = start;

@@ -5,7 +5,6 @@
 ghost use Rattle.std.specs.Prelude.{◌≡◌, true, ◌^◌, ◌≤◌, ◌<◌, length, Ok};
 ghost use Rattle.words.specs.Answer.{verdict};
 ghost use Rattle.lent.specs.Lent.{lent};
-ghost use Rattle.codes.specs.AsCoded.Rows.{row_numbers};
 ghost use Rattle.record.specs.AsCoded.Plan.{scopes_from};
 ghost use Rattle.xdata.specs.Xdata.{fit_xdata};
 ghost use Rattle.place.specs.Judged.{view_at};
@@ -14,6 +13,7 @@ ghost use Rattle.fitting.specs.Fitting.{fit_number, fitted};
 ghost use Rattle.fitting.specs.declared.FitRefusal.TheVariants.{Record, Differs};
 ghost use Rattle.fitting.specs.AsCoded.Passes.{open_pass, scope_pass, scopes_pass, plan_pass, plan_fitted};
 
+use codes::RowTable;
 use comparing::Differs;
 use place::layout;
 use record::Plan;
@@ -57,8 +57,8 @@ pub fn number(r: FitRefusal) -> u32
 }
 
 // The prologue, if there is one.
-fn opened(t: &[u8; 256], codes: &[u8], fragment: bool, code: &[u8]) -> Result<(), Differs>
-    requires { (t.now ≡ row_numbers) × (length codes.now ≤ 1020) }
+fn opened(t: &RowTable, codes: &[u8], fragment: bool, code: &[u8]) -> Result<(), Differs>
+    requires { length codes.now ≤ 1020 }
     ensures { result ≡ open_pass code.now codes.now fragment }
 {
     if fragment {
@@ -71,8 +71,8 @@ fn opened(t: &[u8; 256], codes: &[u8], fragment: bool, code: &[u8]) -> Result<()
 }
 
 // The epilogue of a scope, whose codes are measured again: it may end where the function does.
-fn scope(t: &[u8; 256], codes: &[u8], span: u64, e: Scope, code: &[u8]) -> Result<(), Differs>
-    requires { (t.now ≡ row_numbers) × (length codes.now ≤ 1020) × (span < 2 ^ 32) }
+fn scope(t: &RowTable, codes: &[u8], span: u64, e: Scope, code: &[u8]) -> Result<(), Differs>
+    requires { (length codes.now ≤ 1020) × (span < 2 ^ 32) }
     ensures { result ≡ scope_pass code.now codes.now span e }
 {
     let index = e.index;
@@ -86,8 +86,8 @@ fn scope(t: &[u8; 256], codes: &[u8], span: u64, e: Scope, code: &[u8]) -> Resul
 }
 
 // The epilogues in turn.
-fn scopes(t: &[u8; 256], codes: &[u8], plan: Plan, xdata: &[u8], code: &[u8]) -> Result<(), Differs>
-    requires { Ready t.now codes.now plan xdata.now }
+fn scopes(t: &RowTable, codes: &[u8], plan: Plan, xdata: &[u8], code: &[u8]) -> Result<(), Differs>
+    requires { Ready codes.now plan xdata.now }
     ensures { result ≡ scopes_pass code.now codes.now plan.span (scopes_from plan.scopes xdata.now 0 plan.count) }
 {
     let span = layout::span_of(plan);
@@ -100,14 +100,8 @@ fn scopes(t: &[u8; 256], codes: &[u8], plan: Plan, xdata: &[u8], code: &[u8]) ->
 }
 
 // The prologue, and then the epilogues.
-fn compare(
-    t: &[u8; 256],
-    codes: &[u8],
-    plan: Plan,
-    xdata: &[u8],
-    code: &[u8],
-) -> Result<(), Differs>
-    requires { Ready t.now codes.now plan xdata.now }
+fn compare(t: &RowTable, codes: &[u8], plan: Plan, xdata: &[u8], code: &[u8]) -> Result<(), Differs>
+    requires { Ready codes.now plan xdata.now }
     ensures { result ≡ plan_pass code.now codes.now plan xdata.now }
 {
     opened(t, codes, plan.fragment, code)?;
@@ -116,13 +110,13 @@ fn compare(
 
 // 18 and 17, by a record's plan and code bytes.
 fn check_plan(
-    t: &[u8; 256],
+    t: &RowTable,
     codes: &[u8],
     plan: Plan,
     xdata: &[u8],
     code: &[u8],
 ) -> Result<(), FitRefusal>
-    requires { Ready t.now codes.now plan xdata.now }
+    requires { Ready codes.now plan xdata.now }
     ensures { result ≡ plan_fitted code.now codes.now plan xdata.now }
 {
     if (code.len() as u64) < layout::span_of(plan) {
@@ -137,7 +131,7 @@ fn check_read(rva: u32, xdata: &[u8], word: u32, code: &[u8]) -> Result<(), FitR
     requires { (fit_xdata (lent rva xdata.now) ≡ true) × (verdict (view_at (lent rva xdata.now) word) ≡ Ok tt) }
     ensures { result ≡ fitted (lent rva xdata.now) word code.now }
 {
-    let t = codes::row_table();
+    let t = RowTable::new();
     let f = record::read(rva, xdata, word).unwrap();
     let codes = f.codes;
     check_plan(&t, codes.of(xdata), f.plan, xdata, code)

@@ -2,13 +2,13 @@
 ghost use Rattle.std.specs.Prelude.{◌≡◌, ℕ, ◌-◌, List};
 ghost use Rattle.words.specs.Bits.{even};
 ghost use Rattle.lent.specs.Lent.{lent};
-ghost use Rattle.codes.specs.AsCoded.Rows.{row_numbers};
 ghost use Rattle.machine.specs.AsCoded.Answers.{regs};
 ghost use Rattle.frame.specs.Frame.{uncovered as uncovered_of};
 ghost use Rattle.frame.specs.AsCoded.FromPlace.{ran_from as spec_ran_from, by_word};
 ghost use Rattle.frame.specs.AsCoded.InPlace.{came_to};
 
 use super::Came;
+use codes::RowTable;
 use words::{CodeBytes, Place, Refusal};
 
 // Nothing covers the pc: a leaf in the first frame, 12 in a later one (RULES 6.2). The lists stay as they are.
@@ -29,7 +29,7 @@ pub fn uncovered(first: bool, sp: u32, lr: u32) -> Result<Came, Refusal>
 
 // The codes from an index run, and 11.
 fn ran_from(
-    t: &[u8; 256],
+    t: &RowTable,
     codes: &[u8],
     index: CodeBytes,
     place: Place,
@@ -41,7 +41,6 @@ fn ran_from(
     base: u32,
     stack: &[u8],
 ) -> Result<Came, Refusal>
-    requires { t.now ≡ row_numbers }
     ensures { (pc : ℕ) → came_to result r.new d.new ≡ spec_ran_from (lent base stack.now) codes.now handler (regs r.old sp lr pc d.old) place index }
 {
     let ran = machine::run_in(t, codes, index, r, d, sp, lr, base, stack)?;
@@ -73,7 +72,7 @@ pub fn offset_of(image: u32, start: u32, pc: u32) -> u64
 
 // By word 1 of the record found, at an offset.
 pub fn by_word(
-    t: &[u8; 256],
+    t: &RowTable,
     first: bool,
     rva: u32,
     xdata: &[u8],
@@ -86,7 +85,6 @@ pub fn by_word(
     sp: u32,
     lr: u32,
 ) -> Result<Came, Refusal>
-    requires { t.now ≡ row_numbers }
     ensures { (pc : ℕ) → came_to result r.new d.new ≡ by_word first (lent rva xdata.now) word (lent base stack.now) o (regs r.old sp lr pc d.old) }
 {
     match place::at(t, rva, xdata, word, o)? {

@@ -2,6 +2,7 @@
 // lists nor files.
 #![tactic(auto)]
 
+use codes::RowTable;
 use machine::Regs;
 use pdata::{Checked, Entry};
 
@@ -10,7 +11,6 @@ mod answer; // the caller by the record found
 ghost use Rattle.std.specs.Prelude.{◌≡◌, List, ℕ};
 ghost use Rattle.lent.specs.Lent.{lent};
 ghost use Rattle.frame.specs.Frame.{inputs, fit_stack as spec_fit_stack, checked, unwound, after_find as spec_after_find, frame};
-ghost use Rattle.codes.specs.AsCoded.Rows.{row_numbers};
 ghost use Rattle.machine.specs.AsCoded.Answers.{regs};
 ghost use Rattle.frame.specs.AsCoded.FromPlace.{Answers};
 ghost use Rattle.frame.specs.AsCoded.InPlace.{came_to, Comes};
@@ -63,7 +63,7 @@ pub fn check(pdata: &[u8], rva: u32, xdata: &[u8], base: u32, stack: &[u8]) -> C
 
 // After the search: the SP that was given (8), and then the caller.
 fn after_find(
-    t: &[u8; 256],
+    t: &RowTable,
     first: bool,
     found: Result<Option<Entry>, Refusal>,
     image: u32,
@@ -77,7 +77,6 @@ fn after_find(
     lr: u32,
     pc: u32,
 ) -> Result<Came, Refusal>
-    requires { t.now ≡ row_numbers }
     ensures { (p : List ℕ) → came_to result r.new d.new ≡ spec_after_find first (inputs image p rva xdata.now base stack.now) (regs r.old sp lr pc d.old) found }
 {
     match found {
@@ -98,10 +97,9 @@ fn after_find(
     }
 }
 
-// One frame in place, first of a walk or later, over tables whose checks were made, by the table of codes, which its callers have just had
-// from `codes::row_table`.
+// One frame in place, first of a walk or later, over tables whose checks were made.
 pub fn frame_in(
-    t: &[u8; 256],
+    t: &RowTable,
     first: bool,
     c: Checked,
     image: u32,
@@ -116,7 +114,6 @@ pub fn frame_in(
     lr: u32,
     pc: u32,
 ) -> Result<Came, Refusal>
-    requires { t.now ≡ row_numbers }
     ensures { Comes first c (inputs image pdata.now rva xdata.now base stack.now) (regs r.old sp lr pc d.old) result r.new d.new }
 {
     if c.fit {
@@ -170,7 +167,7 @@ pub fn frame_of(
 {
     let mut r = g.r;
     let mut d = g.d;
-    let t = codes::row_table();
+    let t = RowTable::new();
     let u = frame_in(
         &t, first, c, image, pdata, rva, xdata, base, stack, &mut r, &mut d, g.sp, g.lr, g.pc,
     );

@@ -11,6 +11,7 @@ ghost use Rattle.report.specs.AsCoded.Parts.{inputs_in, Lie};
 ghost use Rattle.listing.specs.Listing.{place_name, refused_text, stop_text, frame_line, last_of, printed, listing};
 ghost use Rattle.listing.specs.AsCoded.Turns.{turn_text};
 
+use codes::RowTable;
 use machine::Regs;
 use report::{Parts, read_report};
 use text::{put_addresses, put_byte, put_count, put_decimal, put_hex8, put_text, put_word};
@@ -103,7 +104,7 @@ fn put_walk(
 ) -> usize
     ensures { Laid out.old 0 (printed (walk (inputs image pdata.now rva xdata.now base stack.now) 256 g)) result out.new }
 {
-    let rows = codes::row_table();
+    let rows = RowTable::new();
     let c = frame::check(pdata, rva, xdata, base, stack);
     let mut r = g.r;
     let mut d = g.d;

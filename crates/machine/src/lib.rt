@@ -1,18 +1,16 @@
-// The machine that codes act on: registers and the lent stack. It knows no tables. No public function asks anything of its caller, but
-// `run_in` that the table lent to it is that of `codes::row_table`.
+// The machine that codes act on: registers and the lent stack. It knows no tables. No public function asks anything of its caller.
 #![tactic(auto)]
 
 ghost use Rattle.std.specs.Prelude.{◌≡◌, List, true, ℕ, ◌+◌, ◌-◌, ◌*◌, ◌<◌, ◌≤◌, eqb, length, get_or, set, if◌then◌else◌, Ok, IfOk};
 ghost use Rattle.words.specs.Bits.{bit};
 ghost use Rattle.lent.specs.Lent.{lent, holds as holds_of};
 ghost use Rattle.codes.specs.Code.{scan};
-ghost use Rattle.codes.specs.AsCoded.Rows.{row_numbers};
 ghost use Rattle.machine.specs.Step.{stands as stands_of, load as load_of, pop as pop_of, vpop as vpop_of, effect as effect_of, step as step_of};
 ghost use Rattle.machine.specs.AsCoded.Answers.{load_two as load_two_of, regs, came};
 ghost use Rattle.machine.specs.AsCoded.Listed.{words_listed as spec_words_listed};
 ghost use Rattle.machine.specs.AsCoded.Run.{run_at};
 
-use codes::{Code, Taken, Undo};
+use codes::{Code, RowTable, Taken, Undo};
 use words::{CodeBytes, Refusal, StackWords};
 
 // The registers of RULES 1.1.
@@ -286,7 +284,7 @@ fn undo_one(
 // the index, since each code has a byte, so that the count fits. The answer is lent (`ended`): one that is returned is copied at each
 // return, and the call in tail position is no jump then.
 fn run_on(
-    t: &[u8; 256],
+    t: &RowTable,
     codes: &[u8],
     at: CodeBytes,
     n: usize,
@@ -298,7 +296,7 @@ fn run_on(
     stack: &[u8],
     ended: &mut Result<Ended, Refusal>,
 )
-    requires { (t.now ≡ row_numbers) × (n ≤ at.0) }
+    requires { n ≤ at.0 }
     ensures ran { (pc : ℕ) → came ended.new (λ e. regs r.new e.sp e.lr pc d.new) ≡ run_at (lent base stack.now) codes.now at (regs r.old sp lr pc d.old) }
     ensures counted { IfOk ended.new (λ e. e.codes ≡ n + length (scan codes.now at).list) }
 {
@@ -312,9 +310,9 @@ fn run_on(
     }
 }
 
-// Runs the codes from an index on, in place, by the table of `codes::row_table`, which its caller has made once for many lists.
+// Runs the codes from an index on, in place, by the table of codes, which its caller has made once for many lists.
 pub fn run_in(
-    t: &[u8; 256],
+    t: &RowTable,
     codes: &[u8],
     at: CodeBytes,
     r: &mut [u32; 13],
@@ -324,7 +322,6 @@ pub fn run_in(
     base: u32,
     stack: &[u8],
 ) -> Result<Ended, Refusal>
-    requires { t.now ≡ row_numbers }
     ensures ran { (pc : ℕ) → came result (λ e. regs r.new e.sp e.lr pc d.new) ≡ run_at (lent base stack.now) codes.now at (regs r.old sp lr pc d.old) }
     ensures counted { IfOk result (λ e. e.codes ≡ length (scan codes.now at).list) }
 {

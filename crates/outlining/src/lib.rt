@@ -11,6 +11,7 @@ ghost use Rattle.region_text.specs.RegionText.{regions_text};
 ghost use Rattle.outlining.specs.Outlined.{regions_by, regions_found, region_lines, outlined};
 ghost use Rattle.outlining.specs.AsCoded.Parts.{opening, turn_part as spec_turn_part, next_at, Stands, TurnWrites, Ready, Writes, begun_at, inputs_at, standing_at, parts_at};
 
+use codes::RowTable;
 use machine::Regs;
 use pdata::{Checked, Entry};
 use report::{Parts, read_report};
@@ -182,7 +183,7 @@ fn turn_part(pdata: &[u8], xdata: &[u8], stack: &[u8], a: At, out: &mut [u8], at
     let checked = a.checked;
     let starts = a.starts;
     let g = a.regs;
-    let rows = codes::row_table();
+    let rows = RowTable::new();
     let mut r = g.r;
     let mut d = g.d;
     let s = walking::stand(g, a.end, a.frames, a.codes);

@@ -6,11 +6,11 @@ ghost use Rattle.unwinding.specs.View.{view};
 ghost use Rattle.unwinding.specs.AsCoded.Lined.{next, reach_of as spec_reach_of};
 ghost use Rattle.unwinding.specs.Shape.{start_of};
 ghost use Rattle.codes.specs.Code.{size, codes_at};
-ghost use Rattle.codes.specs.AsCoded.Rows.{row_numbers};
 ghost use Rattle.record.specs.AsCoded.Plan.{scopes_from, shape_by};
 ghost use Rattle.place.specs.AsCoded.Look.{Ready, measured, span_by, see as see_of, look_from, passed, unseen as unseen_of};
 
 use super::{EpilogueSpan, Passed, Seen};
+use codes::RowTable;
 use record::Plan;
 use unwinding::{Scope, Start};
 use words::{CodeBytes, Halfwords, Refusal};
@@ -35,8 +35,8 @@ pub fn bytes_of(count: u64) -> u64
 }
 
 // The size of the code list at an index.
-pub fn measure(t: &[u8; 256], codes: &[u8], index: CodeBytes) -> Result<u64, Refusal>
-    requires { (t.now ≡ row_numbers) × (length codes.now ≤ 1020) }
+pub fn measure(t: &RowTable, codes: &[u8], index: CodeBytes) -> Result<u64, Refusal>
+    requires { length codes.now ≤ 1020 }
     ensures { (result ≡ measured (codes_at codes.now index)) × IfOk result (λ n. n < 8192) }
 {
     let found = reader::scan(t, codes, index)?;
@@ -45,13 +45,13 @@ pub fn measure(t: &[u8; 256], codes: &[u8], index: CodeBytes) -> Result<u64, Ref
 
 // The same where the size of the list at another index is known: epilogues often share their codes.
 fn measure_after(
-    t: &[u8; 256],
+    t: &RowTable,
     codes: &[u8],
     index: CodeBytes,
     at: CodeBytes,
     size: u64,
 ) -> Result<u64, Refusal>
-    requires { (t.now ≡ row_numbers) × (length codes.now ≤ 1020) × (measured (codes_at codes.now at) ≡ Ok size) × (size < 8192) }
+    requires { (length codes.now ≤ 1020) × (measured (codes_at codes.now at) ≡ Ok size) × (size < 8192) }
     ensures { (result ≡ measured (codes_at codes.now index)) × IfOk result (λ n. n < 8192) }
 {
     if index.0 == at.0 {
@@ -128,7 +128,7 @@ pub fn count_of(plan: Plan) -> usize
 
 // The epilogues of a record in turn, given the size of the code list at index 0. Codes are scanned anew only where the index changes.
 fn look(
-    t: &[u8; 256],
+    t: &RowTable,
     codes: &[u8],
     plan: Plan,
     xdata: &[u8],
@@ -136,7 +136,7 @@ fn look(
     seen: Seen,
     first: u64,
 ) -> Result<Seen, Refusal>
-    requires { Ready t.now codes.now plan xdata.now × (measured (codes_at codes.now (code_bytes 0)) ≡ Ok first) × (first < 8192) }
+    requires { Ready codes.now plan xdata.now × (measured (codes_at codes.now (code_bytes 0)) ≡ Ok first) × (first < 8192) }
     ensures { result ≡ look_from codes.now plan.span o 0 seen (scopes_from plan.scopes xdata.now 0 plan.count) }
 {
     let span = span_of(plan);
@@ -175,14 +175,8 @@ fn prologue_of(fragment: bool, list: u64) -> u64
 }
 
 // The prologue and the epilogues of a record. The code list at index 0 is scanned once for both.
-pub fn pass(
-    t: &[u8; 256],
-    codes: &[u8],
-    plan: Plan,
-    xdata: &[u8],
-    o: u64,
-) -> Result<Passed, Refusal>
-    requires { Ready t.now codes.now plan xdata.now }
+pub fn pass(t: &RowTable, codes: &[u8], plan: Plan, xdata: &[u8], o: u64) -> Result<Passed, Refusal>
+    requires { Ready codes.now plan xdata.now }
     ensures { result ≡ passed codes.now plan.span plan.fragment (scopes_from plan.scopes xdata.now 0 plan.count) o }
 {
     let found = reader::scan(t, codes, CodeBytes(0))?;
@@ -194,8 +188,8 @@ pub fn pass(
 }
 
 // 6 and 7 for a record's plan and code bytes. They are the same for each offset of the pass.
-pub fn judge(t: &[u8; 256], codes: &[u8], plan: Plan, xdata: &[u8]) -> Result<(), Refusal>
-    requires { Ready t.now codes.now plan xdata.now }
+pub fn judge(t: &RowTable, codes: &[u8], plan: Plan, xdata: &[u8]) -> Result<(), Refusal>
+    requires { Ready codes.now plan xdata.now }
     ensures { result ≡ verdict (view size codes_at (shape_by plan codes.now xdata.now)) }
 {
     let q = pass(t, codes, plan, xdata, 0)?;

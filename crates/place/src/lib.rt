@@ -12,9 +12,9 @@ ghost use Rattle.place.specs.AsCoded.Look.{Ready, by_skip, in_epilogue as spec_i
 ghost use Rattle.lent.specs.Lent.{lent};
 ghost use Rattle.words.specs.Answer.{verdict};
 ghost use Rattle.place.specs.Judged.{view_at};
-ghost use Rattle.codes.specs.AsCoded.Rows.{row_numbers};
 ghost use Rattle.place.specs.AsCoded.Placed.{in_plan as spec_in_plan, any_placed};
 
+use codes::RowTable;
 use record::{Codes, Plan};
 use unwinding::Scope;
 use words::{CodeBytes, Place, Refusal};
@@ -76,8 +76,7 @@ fn past(o: u64, from: u64) -> u64
 }
 
 // In the prologue: skips the codes whose instructions have still to run (RULES 5.8).
-fn in_prologue(t: &[u8; 256], codes: &[u8], k: u64) -> Result<Spot, Refusal>
-    requires { t.now ≡ row_numbers }
+fn in_prologue(t: &RowTable, codes: &[u8], k: u64) -> Result<Spot, Refusal>
     ensures { result ≡ by_skip Place.Prologue (skip_at codes.now (code_bytes 0) k) }
 {
     match reader::skip(t, codes, CodeBytes(0), k) {
@@ -90,8 +89,7 @@ fn in_prologue(t: &[u8; 256], codes: &[u8], k: u64) -> Result<Spot, Refusal>
 }
 
 // In an epilogue: skips the codes whose instructions have run (RULES 5.9); 9 before 10.
-fn in_epilogue(t: &[u8; 256], codes: &[u8], o: u64, w: EpilogueSpan) -> Result<Spot, Refusal>
-    requires { t.now ≡ row_numbers }
+fn in_epilogue(t: &RowTable, codes: &[u8], o: u64, w: EpilogueSpan) -> Result<Spot, Refusal>
     ensures { result ≡ spec_in_epilogue codes.now o w }
 {
     match reader::skip(t, codes, w.index, past(o, w.start)) {
@@ -110,8 +108,8 @@ fn in_epilogue(t: &[u8; 256], codes: &[u8], o: u64, w: EpilogueSpan) -> Result<S
 }
 
 // In the epilogue of a scope, whose codes are read again: the pass over the epilogues keeps only its number.
-fn in_scope(t: &[u8; 256], codes: &[u8], span: u64, o: u64, e: Scope) -> Result<Spot, Refusal>
-    requires { (t.now ≡ row_numbers) × (length codes.now ≤ 1020) × (span < 2 ^ 32) }
+fn in_scope(t: &RowTable, codes: &[u8], span: u64, o: u64, e: Scope) -> Result<Spot, Refusal>
+    requires { (length codes.now ≤ 1020) × (span < 2 ^ 32) }
     ensures { result ≡ spec_in_scope codes.now span o e }
 {
     let size = layout::measure(t, codes, e.index)?;
@@ -120,14 +118,14 @@ fn in_scope(t: &[u8; 256], codes: &[u8], span: u64, o: u64, e: Scope) -> Result<
 
 // In the epilogue of a number, or, where none has it, in the body.
 fn in_here(
-    t: &[u8; 256],
+    t: &RowTable,
     codes: &[u8],
     plan: Plan,
     xdata: &[u8],
     o: u64,
     at: usize,
 ) -> Result<Spot, Refusal>
-    requires { Ready t.now codes.now plan xdata.now }
+    requires { Ready codes.now plan xdata.now }
     ensures { result ≡ spec_in_here codes.now plan.span (scopes_from plan.scopes xdata.now 0 plan.count) o at }
 {
     if at < plan.count {
@@ -142,14 +140,14 @@ fn in_here(
 
 // 7, and then the place (RULES 5.6).
 fn in_seen(
-    t: &[u8; 256],
+    t: &RowTable,
     codes: &[u8],
     plan: Plan,
     xdata: &[u8],
     o: u64,
     q: Passed,
 ) -> Result<Spot, Refusal>
-    requires { Ready t.now codes.now plan xdata.now }
+    requires { Ready codes.now plan xdata.now }
     ensures { result ≡ spec_in_seen codes.now plan.span (scopes_from plan.scopes xdata.now 0 plan.count) o q }
 {
     let seen = q.seen;
@@ -163,8 +161,8 @@ fn in_seen(
 }
 
 // The place of an offset in a record, and the index of the first code that runs there.
-fn spot_in(t: &[u8; 256], codes: &[u8], plan: Plan, xdata: &[u8], o: u64) -> Result<Spot, Refusal>
-    requires { Ready t.now codes.now plan xdata.now }
+fn spot_in(t: &RowTable, codes: &[u8], plan: Plan, xdata: &[u8], o: u64) -> Result<Spot, Refusal>
+    requires { Ready codes.now plan xdata.now }
     ensures { result ≡ spot_of codes.now plan.span plan.fragment (scopes_from plan.scopes xdata.now 0 plan.count) o }
 {
     let q = layout::pass(t, codes, plan, xdata, o)?;
@@ -173,13 +171,13 @@ fn spot_in(t: &[u8; 256], codes: &[u8], plan: Plan, xdata: &[u8], o: u64) -> Res
 
 // By a record's plan, whose scope words are in the .xdata, and code bytes; none where its function does not cover the offset.
 fn in_plan(
-    t: &[u8; 256],
+    t: &RowTable,
     codes: &[u8],
     plan: Plan,
     xdata: &[u8],
     o: u64,
 ) -> Result<Option<Placed>, Refusal>
-    requires { Ready t.now codes.now plan xdata.now }
+    requires { Ready codes.now plan xdata.now }
     ensures { result ≡ spec_in_plan plan codes.now xdata.now o }
 {
     if o < plan.span as u64 {
@@ -196,13 +194,12 @@ fn in_plan(
 // Where an offset stands in the record that word 1 of a .pdata record names; none where its function does not cover the offset. The table
 // of codes is lent.
 pub fn at(
-    t: &[u8; 256],
+    t: &RowTable,
     rva: u32,
     xdata: &[u8],
     word: u32,
     o: u64,
 ) -> Result<Option<AnyPlaced>, Refusal>
-    requires { t.now ≡ row_numbers }
     ensures { result ≡ any_placed (lent rva xdata.now) word o }
 {
     let f = record::read(rva, xdata, word)?;
@@ -218,7 +215,7 @@ pub fn judge(rva: u32, xdata: &[u8], word: u32) -> Result<(), Refusal>
     ensures { result ≡ verdict (view_at (lent rva xdata.now) word) }
 {
     let f = record::read(rva, xdata, word)?;
-    let t = codes::row_table();
+    let t = RowTable::new();
     let codes = f.codes;
     layout::judge(&t, codes.of(xdata), f.plan, xdata)
 }

@@ -4,12 +4,11 @@
 
 ghost use Rattle.std.specs.Prelude.{◌≡◌};
 ghost use Rattle.codes.specs.Code.{take_at, scan as scan_of};
-ghost use Rattle.codes.specs.AsCoded.Rows.{row_numbers};
 ghost use Rattle.codes.specs.AsCoded.Sizing.{sized};
 ghost use Rattle.reader.specs.AsCoded.Reading.{past, moved, scanned};
 ghost use Rattle.reader.specs.AsCoded.Skip.{skip_at};
 
-use codes::{Taken, size_at};
+use codes::{RowTable, Taken, size_at};
 use words::{CodeBytes, Halfwords, Refusal, halfword_bytes};
 
 // The reader of RULES 3.6: the code bytes, which are lent, and the index that it has come to.
@@ -33,8 +32,7 @@ struct Moved {
     at: CodeBytes,
 }
 
-fn move_at(codes: &[u8], at: CodeBytes, t: &[u8; 256]) -> Moved
-    requires { t.now ≡ row_numbers }
+fn move_at(codes: &[u8], at: CodeBytes, t: &RowTable) -> Moved
     ensures { result ≡ moved (sized (take_at codes.now at)) at }
 {
     let taken = size_at(t, codes, at);
@@ -53,8 +51,7 @@ impl<'a> Reader<'a> {
     }
 
     // Takes one code, and hands the reader on. The table of `codes` is lent.
-    pub fn take(self, t: &[u8; 256]) -> Step<'a>
-        requires { t.now ≡ row_numbers }
+    pub fn take(self, t: &RowTable) -> Step<'a>
         ensures { (result.taken ≡ sized (take_at self.entry.codes.now self.entry.at))
             × (result.rest ≡ record { codes = self.entry.codes; at = past (sized (take_at self.entry.codes.now self.entry.at)) self.entry.at }) }
     {
@@ -77,8 +74,7 @@ pub struct Ends {
 }
 
 // One pass of a reader over the code list at an index. The table of `codes` is lent.
-pub fn scan(t: &[u8; 256], codes: &[u8], at: CodeBytes) -> Result<Ends, Refusal>
-    requires { t.now ≡ row_numbers }
+pub fn scan(t: &RowTable, codes: &[u8], at: CodeBytes) -> Result<Ends, Refusal>
     ensures { result ≡ scanned (scan_of codes.now at) }
 {
     let mut r = Reader::new(codes, at);
@@ -105,8 +101,7 @@ pub fn scan(t: &[u8; 256], codes: &[u8], at: CodeBytes) -> Result<Ends, Refusal>
 
 // Skips the codes from an index on whose instructions take n bytes; none if n bytes end inside an instruction or behind the list. The
 // table of `codes` is lent.
-pub fn skip(t: &[u8; 256], codes: &[u8], at: CodeBytes, n: u64) -> Option<CodeBytes>
-    requires { t.now ≡ row_numbers }
+pub fn skip(t: &RowTable, codes: &[u8], at: CodeBytes, n: u64) -> Option<CodeBytes>
     ensures { result ≡ skip_at codes.now at n }
 {
     let mut i = at.0;

@@ -4,12 +4,12 @@
 ghost use Rattle.std.specs.Prelude.{◌≡◌, ◌+◌, ◌*◌, ◌<◌, ◌≤◌, length, set};
 ghost use Rattle.frame.specs.Frame.{inputs, checked as checked_of};
 ghost use Rattle.walking.specs.Walk.{next_frame as spec_next_frame, walk as walk_of, Walks, walked_all};
-ghost use Rattle.codes.specs.AsCoded.Rows.{row_numbers};
 ghost use Rattle.machine.specs.AsCoded.Answers.{regs};
 ghost use Rattle.frame.specs.AsCoded.InPlace.{came_to};
 ghost use Rattle.walking.specs.AsCoded.Turn.{begun, turn_of, Small};
 ghost use Rattle.walking.specs.AsCoded.InPlace.{stands, gone_in, SmallIn, Goes};
 
+use codes::RowTable;
 use frame::Came;
 use machine::Regs;
 use pdata::Checked;
@@ -97,7 +97,7 @@ pub fn stand(g: Regs, end: bool, frames: usize, codes: usize) -> Standing
 
 // One frame of a walk in place: 13 where a later one does not change SP (RULES 7.6).
 fn next_frame(
-    t: &[u8; 256],
+    t: &RowTable,
     first: bool,
     c: Checked,
     image: u32,
@@ -112,7 +112,7 @@ fn next_frame(
     lr: u32,
     pc: u32,
 ) -> Result<Came, Refusal>
-    requires { (t.now ≡ row_numbers) × (c ≡ checked_of (inputs image pdata.now rva xdata.now base stack.now)) }
+    requires { c ≡ checked_of (inputs image pdata.now rva xdata.now base stack.now) }
     ensures { came_to result r.new d.new ≡ spec_next_frame first (inputs image pdata.now rva xdata.now base stack.now) (regs r.old sp lr pc d.old) }
 {
     let u = frame::frame_in(
@@ -151,7 +151,7 @@ fn advance(s: Standing, u: Came) -> Going
 // One turn in place, in a list with room for so many records: how it goes on, or why the walk stops, and then the lent registers do not
 // count.
 pub fn turn_in(
-    t: &[u8; 256],
+    t: &RowTable,
     c: Checked,
     image: u32,
     pdata: &[u8],
@@ -164,7 +164,7 @@ pub fn turn_in(
     s: Standing,
     room: usize,
 ) -> Result<Going, Stop>
-    requires { (t.now ≡ row_numbers) × (c ≡ checked_of (inputs image pdata.now rva xdata.now base stack.now)) × SmallIn (stands s r.old d.old) }
+    requires { (c ≡ checked_of (inputs image pdata.now rva xdata.now base stack.now)) × SmallIn (stands s r.old d.old) }
     ensures { Goes (inputs image pdata.now rva xdata.now base stack.now) room (stands s r.old d.old) result r.new d.new }
 {
     if s.end {
@@ -224,7 +224,7 @@ fn step(
     requires { (s.checked ≡ checked_of (inputs image pdata.now rva xdata.now base stack.now)) × Small s }
     ensures { result ≡ turn_of (inputs image pdata.now rva xdata.now base stack.now) room s }
 {
-    let rows = codes::row_table();
+    let rows = RowTable::new();
     let checked = s.checked;
     let g = s.regs;
     let mut r = g.r;

@@ -13,8 +13,8 @@ returns-then-codes-i c = let a = c.args in ap sized (sym (take_past a.codes.now 
 pub returns-then-codes-i-2 : goal.returns-then-codes-i-2
 returns-then-codes-i-2 c =
     let a = c.args in
-    let n = entry-count _ c.row_of-row.ensures in
+    let n = entry-count _ c.of-row.ensures in
     ap sized (sym (take_short a.codes.now a.at.0 (omega arith) (omega (arith, n, c.if-codes-i-2.true))))
 
 pub size_as-requires : goal.size_as-requires
-size_as-requires c = let e = c.row_of-row.ensures in (e, omega (arith, entry-count _ e))
+size_as-requires c = let e = c.of-row.ensures in (e, omega (arith, entry-count _ e))

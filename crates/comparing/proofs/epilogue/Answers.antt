@@ -16,7 +16,7 @@ use Rattle.comparing.proofs.Passing.{taken-listed, scan-past, epilogue-one, epil
 use Rattle.comparing.proofs.epilogue.Goals as goal
 
 pub loop-i-init : goal.loop-i-init
-loop-i-init c = (refl, omega (arith, c.requires.1))
+loop-i-init c = (refl, omega (arith, c.requires))
 
 pub in_epilogue-requires : goal.in_epilogue-requires
 in_epilogue-requires c = taken-listed _ _ (sym c.take_at-taken.ensures ∙ c.in-One.is)

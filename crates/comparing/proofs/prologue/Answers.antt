@@ -18,7 +18,7 @@ use Rattle.comparing.proofs.Passing.{scan-past, total-one, prologue-one, prologu
 use Rattle.comparing.proofs.prologue.Goals as goal
 
 pub loop-i-init : goal.loop-i-init
-loop-i-init c = (c.requires.1, refl)
+loop-i-init c = (c.requires, refl)
 
 pub overflow_sub-left : goal.overflow_sub-left
 overflow_sub-left c =

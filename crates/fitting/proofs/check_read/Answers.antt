@@ -21,7 +21,7 @@ check_plan-requires c =
     let x = a.xdata.now in
     let f = c.unwrap-f.result in
     let e = sym c.read.ensures ∙ c.unwrap-f.ensures in
-    (c.row_table-t.ensures, rw c.of.ensures (read-few a.rva x a.word f e), read-listed a.rva x a.word f e)
+    (rw c.of.ensures (read-few a.rva x a.word f e), read-listed a.rva x a.word f e)
 
 pub returns : goal.returns
 returns c =

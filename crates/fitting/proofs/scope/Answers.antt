@@ -7,7 +7,7 @@ use Rattle.fitting.specs.AsCoded.Passes.{scope_by}
 use Rattle.fitting.proofs.scope.Goals as goal
 
 pub epilogue_span-w-requires : goal.epilogue_span-w-requires
-epilogue_span-w-requires c = (c.requires.2, c.in-Ok.ensures.1)
+epilogue_span-w-requires c = (c.requires.1, c.in-Ok.ensures.1)
 
 pub returns-in-Ok : goal.returns-in-Ok
 returns-in-Ok c =

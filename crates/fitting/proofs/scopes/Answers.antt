@@ -17,7 +17,7 @@ pub scope-e-requires : goal.scope-e-requires
 scope-e-requires c =
     let a = c.args in
     let n = c.count_of-n in
-    scopes-inside a.plan.scopes c.loop-k.k n.result (length a.xdata.now) c.loop-k-test.true (rw n.ensures.0 c.requires.2)
+    scopes-inside a.plan.scopes c.loop-k.k n.result (length a.xdata.now) c.loop-k-test.true (rw n.ensures.0 c.requires.1)
 
 pub returns-in_err-scope : goal.returns-in_err-scope
 returns-in_err-scope c =

@@ -23,7 +23,7 @@ loop-going-init c =
     (none _ _ (omega arith) (omega arith))
 
 pub turn_in-x-requires : goal.turn_in-x-requires
-turn_in-x-requires c = (c.row_table-rows.ensures, c.check-c.ensures, printing-small _ _ c.loop-going.invariant)
+turn_in-x-requires c = (c.check-c.ensures, printing-small _ _ c.loop-going.invariant)
 
 pub loop-going-smaller : goal.loop-going-smaller
 loop-going-smaller c =

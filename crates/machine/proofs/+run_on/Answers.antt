@@ -21,12 +21,12 @@ onward : (s : List ℕ) (i : CodeBytes) (c : Code) (next : CodeBytes) → take_a
 onward s i c next e = take_next takes s i.0 (ap seen e)
 
 pub overflow_add-n : goal.overflow_add-n
-overflow_add-n t c = omega (arith, onward _ _ _ _ (sym c.take_at.ensures ∙ c.in-One.is), c.requires.1, c.well_formed)
+overflow_add-n t c = omega (arith, onward _ _ _ _ (sym c.take_at.ensures ∙ c.in-One.is), c.requires, c.well_formed)
 
 pub run_on-requires : goal.run_on-requires
 run_on-requires t c =
     let on = onward _ _ _ _ (sym c.take_at.ensures ∙ c.in-One.is) in
-    (omega (arith, on), (c.requires.0, omega (arith, on, c.requires.1)))
+    (omega (arith, on), omega (arith, on, c.requires))
 
 pub returns-in-Ok-clause-ran : goal.returns-in-Ok-clause-ran
 returns-in-Ok-clause-ran t c pc =

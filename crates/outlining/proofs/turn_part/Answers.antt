@@ -9,7 +9,7 @@ use Rattle.outlining.proofs.turn_part.Goals as goal
 
 pub turn_in-x-requires : goal.turn_in-x-requires
 turn_in-x-requires c =
-    (c.row_table-rows.ensures, c.requires.checks, rw c.stand-s.ensures c.requires.small)
+    (c.requires.checks, rw c.stand-s.ensures c.requires.small)
 
 pub put_turn-place-requires : goal.put_turn-place-requires
 put_turn-place-requires c = c.requires.table

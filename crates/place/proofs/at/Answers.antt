@@ -14,4 +14,4 @@ in_plan-requires c =
     let x = a.xdata.now in
     let f = c.in_ok-f.f in
     let e = sym c.in_ok-f.ensures in
-    (c.requires, rw c.of.ensures (read-few a.rva x a.word f e), read-listed a.rva x a.word f e)
+    (rw c.of.ensures (read-few a.rva x a.word f e), read-listed a.rva x a.word f e)

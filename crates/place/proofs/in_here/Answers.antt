@@ -10,7 +10,7 @@ use Rattle.place.proofs.in_here.Goals as goal
 pub scope-e-requires : goal.scope-e-requires
 scope-e-requires c =
     let a = c.args in
-    scopes-inside a.plan.scopes a.at a.plan.count (length a.xdata.now) c.if-at-plan.true c.requires.2
+    scopes-inside a.plan.scopes a.at a.plan.count (length a.xdata.now) c.if-at-plan.true c.requires.1
 
 pub returns-then-at-plan : goal.returns-then-at-plan
 returns-then-at-plan c =

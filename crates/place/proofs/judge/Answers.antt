@@ -26,7 +26,7 @@ judge-requires c =
     let x = a.xdata.now in
     let f = c.in_ok-f.f in
     let e = sym c.in_ok-f.ensures in
-    (c.row_table-t.ensures, rw c.of.ensures (read-few a.rva x a.word f e), read-listed a.rva x a.word f e)
+    (rw c.of.ensures (read-few a.rva x a.word f e), read-listed a.rva x a.word f e)
 
 pub returns : goal.returns
 returns c =

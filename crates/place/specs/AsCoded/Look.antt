@@ -16,7 +16,6 @@ use Rattle.unwinding.specs.declared.Scope.{Scope}
 use Rattle.codes.specs.declared.Code.{Code}
 use Rattle.codes.specs.Code.{size, codes_at}
 use Rattle.codes.specs.Condition.{executing}
-use Rattle.codes.specs.AsCoded.Rows.{row_numbers}
 use Rattle.reader.specs.AsCoded.Skip.{skip_at}
 use Rattle.record.specs.AsCoded.Plan.{scopes_end}
 use Rattle.record.specs.declared.Plan.{Plan}
@@ -25,9 +24,9 @@ use Rattle.place.specs.declared.Seen.{Seen}
 use Rattle.place.specs.declared.Passed.{Passed}
 use Rattle.place.specs.declared.Spot.{Spot}
 
--- what whoever read a record has found: the table that is lent is the codes', there are few code bytes, and the scope words are in the .xdata
-abbrev pub Ready : (table codes : List ℕ) → Plan → (xdata : List ℕ) → Type 0
-Ready t s p x = (t ≡ row_numbers) × (length s ≤ 1020) × (scopes_end p.scopes p.count ≤ length x)
+-- what whoever read a record has found: there are few code bytes, and the scope words are in the .xdata
+abbrev pub Ready : (codes : List ℕ) → Plan → (xdata : List ℕ) → Type 0
+Ready s p x = (length s ≤ 1020) × (scopes_end p.scopes p.count ≤ length x)
 
 -- the size of a code list's instructions, its end code's with them
 abbrev pub list_size : Codes Code → ℕ

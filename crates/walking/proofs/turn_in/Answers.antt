@@ -16,7 +16,7 @@ pub advance-requires : goal.advance-requires
 advance-requires c =
     let a = c.args in
     let u = c.next_frame-came in
-    let small = c.requires.2 in
+    let small = c.requires.1 in
     (small.rose, small.few, came-codes _ a.s a.r.now a.d.now c.in-Ok.u u.new.r u.new.d (sym (ap (λ x. came_to x u.new.r u.new.d) c.in-Ok.is) ∙ u.ensures))
 
 pub returns-in-Err : goal.returns-in-Err

@@ -15,23 +15,23 @@ use Rattle.place.proofs.layout.pass.Goals as goal
 pub prologue_of-p-requires : goal.prologue_of-p-requires
 prologue_of-p-requires c =
     let a = c.args in
-    omega (arith, (scanned-ends a.codes.now (code_bytes 0) _ (sym c.in_ok-found.ensures)).few, c.requires.1)
+    omega (arith, (scanned-ends a.codes.now (code_bytes 0) _ (sym c.in_ok-found.ensures)).few, c.requires.0)
 
 pub overflow_add-found : goal.overflow_add-found
 overflow_add-found c =
     let a = c.args in
-    omega (arith, (scanned-ends a.codes.now (code_bytes 0) _ (sym c.in_ok-found.ensures)).few, c.requires.1)
+    omega (arith, (scanned-ends a.codes.now (code_bytes 0) _ (sym c.in_ok-found.ensures)).few, c.requires.0)
 
 pub bytes_of-first-requires : goal.bytes_of-first-requires
 bytes_of-first-requires c =
     let a = c.args in
-    omega (arith, (scanned-ends a.codes.now (code_bytes 0) _ (sym c.in_ok-found.ensures)).few, c.requires.1)
+    omega (arith, (scanned-ends a.codes.now (code_bytes 0) _ (sym c.in_ok-found.ensures)).few, c.requires.0)
 
 pub look-requires : goal.look-requires
 look-requires c =
     let s = c.args.codes.now in
     let q = sym c.in_ok-found.ensures in
-    (c.requires, measured-ends s (code_bytes 0) _ _ q c.bytes_of-first.ensures, omega (arith, (scanned-ends s (code_bytes 0) _ q).few, c.requires.1, c.bytes_of-first.ensures))
+    (c.requires, measured-ends s (code_bytes 0) _ _ q c.bytes_of-first.ensures, omega (arith, (scanned-ends s (code_bytes 0) _ q).few, c.requires.0, c.bytes_of-first.ensures))
 
 pub returns-in_err-seen : goal.returns-in_err-seen
 returns-in_err-seen c =
