@@ -76,7 +76,7 @@ pub fn instruction_size(b: u8) -> Halfwords
 
 // The table itself, to be lent to whoever goes over many codes: a constant array is laid on the stack anew wherever it is indexed. The type
 // says that it is this table and no other.
-#[derive(Drop)]
+#[derive(Clone, Copy)]
 pub struct RowTable {
     entries: [u8; 256],
 }
@@ -85,6 +85,8 @@ impl Model for RowTable {
     ghost Value = { List ℕ };
 
     ghost view = { λ t. t.entries };
+
+    ghost inverse = { λ s. record { entries = s } };
 
     ghost invariant = { λ t. t.entries ≡ row_numbers };
 }
@@ -96,6 +98,21 @@ impl RowTable {
         RowTable {
             entries: table::ROWS,
         }
+    }
+
+    // The table of whoever holds its numbers already.
+    pub fn from_rows(rows: [u8; 256]) -> RowTable
+        requires { rows ≡ row_numbers }
+        ensures { result ≡ row_numbers }
+    {
+        RowTable { entries: rows }
+    }
+
+    // Its numbers, by first byte.
+    pub fn rows(&self) -> &[u8; 256]
+        ensures { result.now ≡ row_numbers }
+    {
+        &self.entries
     }
 
     // A first byte's entry.

@@ -7,7 +7,7 @@ use mathlib.Core.Path.{◌≡◌, refl, sym, ap, ◌∙◌, subst}
 use mathlib.Core.Logic.{◌⊎◌, inl, inr}
 use mathlib.Core.List.{List, [], ◌∷◌}
 use mathlib.Core.Bool.{Bool, true, false, ◌&&◌, ◌||◌, not}
-use lib.ListN.{length, get_or}
+use lib.ListN.{length, replicate, get_or}
 use lib.Dec.{leb, ltb, eqb}
 use native.Mathlib.Omega.{arith}
 use borrow.Author.Tests.{ne_eqb}
@@ -38,9 +38,9 @@ use Rattle.machine.specs.Step.{stands, load, pop_reg, pop_d, pop, vpop, effect, 
 use Rattle.pdata.specs.declared.Entry.{Entry}
 use Rattle.packed.specs.declared.Packed.{Packed}
 use Rattle.pdata.specs.Pdata.{find, find_rva, starts}
-use Rattle.packed.specs.Packed.{fields, fields_fit, allowed, write_word}
-use Rattle.packed_codes.specs.PackedCodes.{write_codes}
-use Rattle.xdata.specs.Xdata.{fit_xdata, record_bytes, scope_count, short_head, long_head, head_at, xdata_size}
+use Rattle.packed.specs.Packed.{fields, fields_fit, allowed, write_word, word_given}
+use Rattle.packed_codes.specs.PackedCodes.{write_codes, codes_given}
+use Rattle.xdata.specs.Xdata.{fit_xdata, record_bytes, scope_count, short_head, long_head, head_at, xdata_size, size_given}
 use Rattle.xdata.specs.Scopes.{scopes_at}
 use Rattle.record.specs.Record.{full_shape, packed_shape, shape_at, shape_of}
 use Rattle.frame.specs.Frame.{Inputs, fit_stack, uncovered, within, by_record, frame_of}
@@ -232,19 +232,23 @@ up_next first t g =
     bound (λ k. k ≤ 13) (frame_of first t g) _ (up-any first t g)
     (λ c. needed (λ k. k ≤ 13) (first || not (eqb c.regs.sp g.sp)) SpSame _ (omega arith) (given (λ k. k ≤ 13) c))
 
--- ---- the numbers of the operations on the tables
+-- ---- the operations on the tables: their numbers, and the zeros that stand for an answer
 pub found_number : (image : ℕ) (pdata : List ℕ) (pc : ℕ) (r : Refusal) → find image pdata pc ≡ Err r → (1 ≤ number r) × (number r ≤ 3)
 found_number i s pc r e = (numbered r, only-find (λ k. k ≤ 3) (omega arith) (omega arith) (omega arith) i s pc r e)
 
-pub size_number : (x : Lent) (at : ℕ) (r : Refusal) → xdata_size x at ≡ Err r → (number r ≡ 1) ⊎ (number r ≡ 4) ⊎ (number r ≡ 5)
-size_number x at r e = only-size (λ k. (k ≡ 1) ⊎ (k ≡ 4) ⊎ (k ≡ 5)) (inl refl) (inr (inl refl)) (inr (inr refl)) x at r e
+pub size_number : (x : Lent) (at : ℕ) (r : Refusal) → xdata_size x at ≡ Err r → ((number r ≡ 1) ⊎ (number r ≡ 4) ⊎ (number r ≡ 5)) × (size_given (xdata_size x at) ≡ 0)
+size_number x at r e = (only-size (λ k. (k ≡ 1) ⊎ (k ≡ 4) ⊎ (k ≡ 5)) (inl refl) (inr (inl refl)) (inr (inr refl)) x at r e, rw e refl)
 
-pub word_number : (p : Packed) (r : Refusal) → write_word p ≡ Err r → number r ≡ 4
+only-word : (p : Packed) → Only (λ k. k ≡ 4) (write_word p)
 unfolding write_word
-word_number p = needed (λ k. k ≡ 4) (fields_fit p && allowed p) Reserved _ refl (given (λ k. k ≡ 4) _)
+only-word p = needed (λ k. k ≡ 4) (fields_fit p && allowed p) Reserved _ refl (given (λ k. k ≡ 4) _)
 
-pub codes-number : (w : ℕ) (r : Refusal) → write_codes w ≡ Err r → number r ≡ 4
-codes-number = only-codes (λ k. k ≡ 4) refl
+pub word_number : (p : Packed) (r : Refusal) → write_word p ≡ Err r → (number r ≡ 4) × (word_given (write_word p) ≡ 0)
+word_number p r e = (only-word p r e, rw e refl)
+
+pub codes-number : (w : ℕ) (r : Refusal) → write_codes w ≡ Err r
+    → (number r ≡ 4) × ((codes_given (write_codes w)).bytes ≡ replicate 16 0) × ((codes_given (write_codes w)).first.0 ≡ 0) × ((codes_given (write_codes w)).second.0 ≡ 0)
+codes-number w r e = (only-codes (λ k. k ≡ 4) refl w r e, rw e refl, rw e refl, rw e refl)
 
 -- ---- no two refusals share a number
 -- a refusal, but for what it holds

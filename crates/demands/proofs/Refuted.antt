@@ -14,7 +14,7 @@ use Rattle.words.specs.Answer.{Res}
 use Rattle.words.proofs.Answers.{ok_same}
 use Rattle.machine.specs.Registers.{reg}
 use Rattle.machine.specs.declared.Regs.{Regs}
-use Rattle.frame.specs.Frame.{Inputs, unwound, frame, leaf_of}
+use Rattle.frame.specs.Frame.{Inputs, unwound, told_of, frame, leaf_of}
 use Rattle.frame.specs.declared.Told.{Told}
 use Rattle.frame.specs.declared.Unwound.{Unwound}
 use Rattle.walking.specs.Walk.{walk, walked_all}
@@ -28,7 +28,7 @@ use Rattle.forward.proofs.Memory.{outside-same}
 use Rattle.forward.proofs.Examples as Run
 use Rattle.demands.specs.Reader.{Reader, ours}
 use Rattle.demands.specs.Demand2.{Demand2}
-use Rattle.demands.specs.Shams.{refusing, fixed, as-leaf, count_told, told_with, inventing, Copying}
+use Rattle.demands.specs.Shams.{refusing, fixed, as-leaf, told_with, inventing, Copying}
 use Rattle.demands.proofs.Examples as Example
 
 -- ---- demand 3: a function entered with this r4 and stopped, as crate forward executes it
@@ -107,12 +107,12 @@ no-copying a h c =
     omega arith
 
 -- a made-up count of codes (RULES 3.16): one that differs at any frame
-counted : (n : ℕ) (x : Res Told) → told_with n x ≡ x → n ≡ count_told x
-counted n (Ok y) e =
+counted : (n : ℕ) (g : Regs) (x : Res Told) → told_with n x ≡ x → n ≡ (told_of (record { regs = g; told = x })).codes
+counted n g (Ok y) e =
     let made : Told = record { place = y.place; handler = y.handler; codes = n } in
     let z : made ≡ y = ok_same made y e in
     ap (λ (u : Told). u.codes) z
-counted n (Err r) e = go (eqb n 0) refl e
+counted n g (Err r) e = go (eqb n 0) refl e
   where
     made : Told
     made = record { place = Leaf; handler = 0; codes = n }
@@ -121,5 +121,5 @@ counted n (Err r) e = go (eqb n 0) refl e
     go true q f = eqb-true n 0 q
     go false q f = absurd (let z : ◌≡◌ {A = ℕ} 0 1 = cc in omega arith)
 
-no-inventing : (count : Inputs → Regs → ℕ) (t : Inputs) (g : Regs) → count t g ≢ count_told (ours.unwind t g).told → Demand2 (inventing count) → ⊥
-no-inventing count t g n h = n (counted (count t g) (ours.unwind t g).told (ap (λ (u : Unwound). u.told) (h.caller t g)))
+no-inventing : (count : Inputs → Regs → ℕ) (t : Inputs) (g : Regs) → count t g ≢ (told_of (ours.unwind t g)).codes → Demand2 (inventing count) → ⊥
+no-inventing count t g n h = n (counted (count t g) (ours.unwind t g).regs (ours.unwind t g).told (ap (λ (u : Unwound). u.told) (h.caller t g)))

@@ -1,18 +1,17 @@
 -- Any reader: what it answers to each of the operations, whole. The three demands are asked of any.
 use Rattle.std.specs.Prelude.{ℕ, List, length, Option}
 use Rattle.lent.specs.Lent.{Lent}
-use Rattle.words.specs.declared.Place.TheVariants.{Leaf}
 use Rattle.unwinding.specs.Singly as Singly
 use Rattle.machine.specs.declared.Regs.{Regs}
 use Rattle.pdata.specs.Pdata.{find}
 use Rattle.xdata.specs.Xdata.{xdata_size}
 use Rattle.packed.specs.Packed.{write_word}
 use Rattle.packed_codes.specs.PackedCodes.{write_codes}
-use Rattle.words.specs.Answer.{Res, verdict, either}
+use Rattle.words.specs.Answer.{Res, verdict}
 use Rattle.pdata.specs.declared.Entry.{Entry}
 use Rattle.packed.specs.declared.Packed.{Packed}
 use Rattle.packed_codes.specs.declared.CodesOf.{CodesOf}
-use Rattle.frame.specs.Frame.{Inputs, frame, unwound}
+use Rattle.frame.specs.Frame.{Inputs, frame, unwound, told_of}
 use Rattle.frame.specs.declared.Unwound.{Unwound}
 use Rattle.walking.specs.Walk as Walking
 use Rattle.walking.specs.Walk.{arm}
@@ -35,7 +34,7 @@ pub record Reader : Type 0 where
 -- a frame's answer and a walk's, as what is asked of any machine's reader looks at them
 abbrev pub alone : Unwound → Singly.Alone arm
 alone u =
-    record { verdict = verdict u.told; to = u.regs; place = either u.told (λ r. Leaf) (λ c. c.place); codes = either u.told (λ r. 0) (λ c. c.codes) }
+    record { verdict = verdict u.told; to = u.regs; place = (told_of u).place; codes = (told_of u).codes }
 
 abbrev pub seen : WalkedAll → Singly.WalkedAll arm
 seen w = record { walked = record { stop = w.walked.stop; frames = w.walked.frames; codes = w.walked.codes }; list = w.list }

@@ -5,8 +5,9 @@ use Rattle.lent.specs.Lent.{Lent, word_at}
 use Rattle.words.specs.Units.{code_bytes}
 use Rattle.words.specs.declared.Place.TheVariants.{Leaf}
 use Rattle.words.specs.declared.Refusal.{Refusal}
-use Rattle.words.specs.Answer.{Res, either, or_else, ◌>>◌}
+use Rattle.words.specs.Answer.{Res, ◌>>◌}
 use Rattle.machine.specs.declared.Regs.{Regs}
+use Rattle.xdata.specs.Xdata.{size_given}
 use Rattle.packed.specs.declared.Packed.{Packed}
 use Rattle.packed_codes.specs.declared.CodesOf.{CodesOf}
 use Rattle.frame.specs.Frame.{Inputs, unwound, leaf_of}
@@ -32,10 +33,6 @@ fixed u = with-unwind (λ t g. u)
 -- it answers like a leaf
 abbrev pub as-leaf : Reader
 as-leaf = with-unwind (λ t g. unwound g (Ok (leaf_of g)))
-
--- the count of codes that is told of a frame, 0 of a refused one (RULES 6.7)
-abbrev pub count_told : Res Told → ℕ
-count_told x = either x (λ r. 0) (λ c. c.codes)
 
 -- its count of codes is made up, in any way: a refused frame that should count some is told as a leaf that does
 abbrev pub told_with : ℕ → Res Told → Res Told
@@ -77,7 +74,7 @@ resized n =
     record { find = ours.find; unwind = ours.unwind; walk = ours.walk; size = λ x at. ours.size x at >> Ok (n x at); word = ours.word; codes = ours.codes; list = ours.list; show = ours.show }
 
 abbrev pub handlerless : Lent → ℕ → ℕ
-handlerless x at = or_else (ours.size x at) 0 - (if bit 20 (word_at x at) then 4 else 0)
+handlerless x at = size_given (ours.size x at) - (if bit 20 (word_at x at) then 4 else 0)
 
 -- ours, but for packed words and their code bytes
 abbrev pub with-packed : (Packed → Res ℕ) → (ℕ → Res CodesOf) → Reader

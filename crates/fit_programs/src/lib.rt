@@ -9,6 +9,7 @@ use programs::Answering;
 use std::io::{Read, Write};
 
 // Whether a FIT file's record fits its code.
+#[derive(Clone, Copy)]
 struct Fit;
 
 impl Answering for Fit {

@@ -1,6 +1,6 @@
 -- The caller by the record found, of either kind, from where an offset stands in it.
 -- Assumes nothing.
-use Rattle.std.specs.Prelude.{if◌then◌else◌, Option, None, Some, Ok, Err}
+use Rattle.std.specs.Prelude.{if◌then◌else◌, None, Ok, Err}
 use Prim.Native.Nat.{ℕ, ◌≤◌}
 use mathlib.Core.Path.{◌≡◌, refl, sym, ap, ◌∙◌}
 use mathlib.Core.List.{List}
@@ -8,15 +8,14 @@ use mathlib.Core.Bool.{Bool, true, false}
 use lib.ListN.{length}
 use lib.Dec.{ltb}
 use Rattle.lent.specs.Lent.{Lent, lent}
-use Rattle.words.specs.Answer.{Res, ◌>>=◌, maybe}
+use Rattle.words.specs.Answer.{Res, ◌>>=◌}
 use Rattle.unwinding.specs.Shape.{Shape}
 use Rattle.machine.specs.declared.Regs.{Regs}
 use Rattle.record.specs.AsCoded.Plan.{shape_by, codes_in, codes_end, read_of, read_shape}
 use Rattle.record.proofs.Shapes.{read-shape, read-inside}
-use Rattle.place.specs.AsCoded.Placed.{covered, in_plan, placed_in, any_placed}
+use Rattle.place.specs.AsCoded.Placed.{covered, placed_in, any_placed}
 use Rattle.place.proofs.Answered.{placed-codes}
 use Rattle.place.specs.declared.AnyPlaced.{AnyPlaced}
-use Rattle.place.specs.declared.Placed.{Placed}
 use Rattle.place.specs.declared.Spot.{Spot}
 use Rattle.record.specs.declared.Record.{Record}
 use Rattle.frame.specs.Frame.{Caller, uncovered, within}
@@ -40,18 +39,11 @@ module _ (first : Bool) (k : Lent) (g : Regs) (o : ℕ) where
 
   module _ (x : List ℕ) where
     -- from where the offset stands in a record of either kind, with its code bytes
-    abbrev pub from : Option AnyPlaced → Res Caller
-    from p = maybe p (uncovered first g) (λ q. ran_from k (codes_in q.codes x) q.at.handler g q.at.place q.at.index)
+    abbrev pub from : AnyPlaced → Res Caller
+    from p = p.at >>= from_placed first k (codes_in p.codes x) g
 
-    by-read : (r : Res Record) → (r >>= (λ f. placed_in x f o) >>= from) ≡ (read_shape x r >>= in_shape)
-    by-read (Ok f) = go (in_plan f.plan (codes_in f.codes x) x o) ∙ sym (by-cover (shape_by f.plan (codes_in f.codes x) x) (ltb o f.plan.span))
-      where
-        go :
-            (y : Res (Option Placed))
-            → (y >>= (λ p. Ok (maybe p None (λ q. Some (record { at = q; codes = f.codes })))) >>= from) ≡ (y >>= from_placed first k (codes_in f.codes x) g)
-        go (Ok (Some q)) = refl
-        go (Ok None) = refl
-        go (Err r) = refl
+    by-read : (r : Res Record) → (r >>= (λ f. Ok (placed_in x f o)) >>= from) ≡ (read_shape x r >>= in_shape)
+    by-read (Ok f) = sym (by-cover (shape_by f.plan (codes_in f.codes x) x) (ltb o f.plan.span))
     by-read (Err r) = refl
 
     pub word-placed : (b w : ℕ) → (any_placed (lent b x) w o >>= from) ≡ by_word first (lent b x) w k o g
@@ -59,5 +51,5 @@ module _ (first : Bool) (k : Lent) (g : Regs) (o : ℕ) where
 
 -- the part of the .xdata that holds the code bytes lies in it
 pub codes-inside :
-    (b : ℕ) (x : List ℕ) (w o : ℕ) (q : AnyPlaced) → Ok (Some q) ≡ any_placed (lent b x) w o → codes_end q.codes ≤ length x
+    (b : ℕ) (x : List ℕ) (w o : ℕ) (q : AnyPlaced) → Ok q ≡ any_placed (lent b x) w o → codes_end q.codes ≤ length x
 codes-inside b x w o q is = let u = placed-codes x (read_of (lent b x) w) o q is in rw u.2 (read-inside b x w u.0 u.1)

@@ -5,7 +5,7 @@ use Rattle.lent.specs.Lent.{Lent, lent, end}
 use Rattle.words.specs.declared.Place.{Place}
 use Rattle.words.specs.declared.Place.TheVariants.{Leaf}
 use Rattle.words.specs.declared.Refusal.TheVariants.{UnfitInput, BadStack, SpFell, NoRecord}
-use Rattle.words.specs.Answer.{Res, ◌>>=◌, ◌>>◌, need, maybe}
+use Rattle.words.specs.Answer.{Res, ◌>>=◌, ◌>>◌, need, maybe, or_else}
 use Rattle.unwinding.specs.CodeList.{run}
 use Rattle.unwinding.specs.Shape.{Shape}
 use Rattle.unwinding.specs.View.{view}
@@ -20,6 +20,7 @@ use Rattle.pdata.specs.Pdata.{find}
 use Rattle.pdata.specs.Pdata as Pdata
 use Rattle.xdata.specs.Xdata.{fit_xdata}
 use Rattle.record.specs.Record.{shape_of}
+use Rattle.frame.specs.declared.Told.{Told}
 use Rattle.frame.specs.declared.Unwound.{Unwound}
 use Rattle.pdata.specs.declared.Checked.{Checked}
 
@@ -92,6 +93,10 @@ frame t g = frame_of true t g
 abbrev pub unwound : Regs → Res Caller → Unwound
 unwound g (Ok c) = record { regs = c.regs; told = Ok (record { place = c.place; handler = c.handler; codes = c.codes }) }
 unwound g (Err r) = record { regs = g; told = Err r }
+
+-- what an answer counts as beside its registers; a refused one has place leaf, handler 0 and 0 codes (RULES 6.7)
+abbrev pub told_of : Unwound → Told
+told_of u = or_else u.told (record { place = Leaf; handler = 0; codes = 0 })
 
 -- the checks that read the tables alone, 1 and 3: a walk makes them once
 abbrev pub checked : Inputs → Checked

@@ -87,24 +87,22 @@ pub fn by_word(
 ) -> Result<Came, Refusal>
     ensures { (pc : ℕ) → came_to result r.new d.new ≡ by_word first (lent rva xdata.now) word (lent base stack.now) o (regs r.old sp lr pc d.old) }
 {
-    match place::at(t, rva, xdata, word, o)? {
-        Some(p) => {
-            let at = p.at;
-            let codes = p.codes;
-            ran_from(
-                t,
-                codes.of(xdata),
-                at.index,
-                at.place,
-                at.handler,
-                r,
-                d,
-                sp,
-                lr,
-                base,
-                stack,
-            )
-        }
+    let p = place::at(t, rva, xdata, word, o)?;
+    let codes = p.codes;
+    match p.at? {
+        Some(at) => ran_from(
+            t,
+            codes.of(xdata),
+            at.index,
+            at.place,
+            at.handler,
+            r,
+            d,
+            sp,
+            lr,
+            base,
+            stack,
+        ),
         None => uncovered(first, sp, lr),
     }
 }

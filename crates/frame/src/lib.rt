@@ -10,7 +10,7 @@ mod answer; // the caller by the record found
 
 ghost use Rattle.std.specs.Prelude.{◌≡◌, List, ℕ};
 ghost use Rattle.lent.specs.Lent.{lent};
-ghost use Rattle.frame.specs.Frame.{inputs, fit_stack as spec_fit_stack, checked, unwound, after_find as spec_after_find, frame};
+ghost use Rattle.frame.specs.Frame.{inputs, fit_stack as spec_fit_stack, checked, unwound, told_of, after_find as spec_after_find, frame};
 ghost use Rattle.machine.specs.AsCoded.Answers.{regs};
 ghost use Rattle.frame.specs.AsCoded.FromPlace.{Answers};
 ghost use Rattle.frame.specs.AsCoded.InPlace.{came_to, Comes};
@@ -30,6 +30,36 @@ pub struct Told {
 pub struct Unwound {
     pub regs: Regs,
     pub told: Result<Told, Refusal>,
+}
+
+// What every answer counts as beside the registers: a refused frame is told with place leaf, handler 0 and 0 codes (RULES 6.7).
+impl Unwound {
+    pub fn place(&self) -> Place
+        ensures { result ≡ (told_of self.now).place }
+    {
+        match self.told {
+            Ok(told) => told.place,
+            Err(_) => Place::Leaf,
+        }
+    }
+
+    pub fn handler(&self) -> u32
+        ensures { result ≡ (told_of self.now).handler }
+    {
+        match self.told {
+            Ok(told) => told.handler,
+            Err(_) => 0,
+        }
+    }
+
+    pub fn codes(&self) -> usize
+        ensures { result ≡ (told_of self.now).codes }
+    {
+        match self.told {
+            Ok(told) => told.codes,
+            Err(_) => 0,
+        }
+    }
 }
 
 // What a frame came to in place: r0-r12 and d0-d31 are lent and stand as the caller has them, SP and LR are here, and the pc is LR with bit

@@ -47,6 +47,7 @@ fn write_refused<W: Write, E: Write>(
 }
 
 // The outline of a report, which is written part by part.
+#[derive(Clone, Copy)]
 struct Outline;
 
 impl Answering for Outline {

@@ -9,7 +9,7 @@ use Rattle.words.specs.declared.StackWords.{StackWords}
 use Rattle.words.specs.declared.Refusal.TheVariants.{Reserved}
 use Rattle.words.specs.Bits.{bits, bit}
 use Rattle.words.specs.Units.{halfwords, halfword_bytes, stack_words}
-use Rattle.words.specs.Answer.{Res, need, ◌>>◌}
+use Rattle.words.specs.Answer.{Res, need, or_else, ◌>>◌}
 use Rattle.codes.specs.Table.{range}
 use Rattle.packed.specs.declared.Packed.{Packed}
 
@@ -41,6 +41,10 @@ unfoldable pub write_word : Packed → Res ℕ
 write_word p = do
   need (fields_fit p && allowed p) Reserved
   Ok (word_of p)
+
+-- what a written word counts as where a number is owed: 0 if it is refused (RULES 4.18)
+abbrev pub word_given : Res ℕ → ℕ
+word_given w = or_else w 0
 
 -- what Stack Adjust says: the amount, and whether push (PF) and pop (EF) make it (RULES 4.2)
 abbrev pub folded : Packed → Bool

@@ -4,7 +4,7 @@
 
 ghost use Rattle.std.specs.Prelude.{◌≡◌, ◌+◌, ◌-◌, ◌*◌, ◌%◌, ◌^◌, ◌<◌, ◌≤◌, eqb, if◌then◌else◌};
 ghost use Rattle.codes.specs.Table.{range as range_of, lr_if as spec_lr_if};
-ghost use Rattle.packed.specs.Packed.{Fit, fields as fields_of, fields_fit as spec_fields_fit, allowed as allowed_of, word_of, write_word as spec_write_word, folded as folded_of, amount as amount_of, PF, EF, integers as integers_of};
+ghost use Rattle.packed.specs.Packed.{Fit, fields as fields_of, fields_fit as spec_fields_fit, allowed as allowed_of, word_of, write_word as spec_write_word, word_given as spec_word_given, folded as folded_of, amount as amount_of, PF, EF, integers as integers_of};
 
 use codes::list::{from_r4, lr_if, range};
 use words::{Halfwords, Refusal, StackWords, bit, bits};
@@ -92,6 +92,13 @@ pub fn write_word(p: Packed) -> Result<u32, Refusal>
         return Ok(word_of(p));
     }
     Err(Refusal::Reserved)
+}
+
+// What a written word counts as where a number is owed: 0 if it is refused (RULES 4.18).
+pub fn word_given(word: Result<u32, Refusal>) -> u32
+    ensures { result ≡ spec_word_given word }
+{
+    word.unwrap_or(0)
 }
 
 // Whether Stack Adjust holds PF and EF beside the amount.

@@ -3,7 +3,7 @@ use Rattle.std.specs.Prelude.{ℕ, zero, suc, ◌+◌, ◌*◌, ◌/◌, ◌%◌
 use Rattle.words.specs.declared.StackWords.{StackWords}
 use Rattle.words.specs.declared.Refusal.TheVariants.{Reserved}
 use Rattle.words.specs.Units.{code_bytes}
-use Rattle.words.specs.Answer.{Res, need, ◌>>◌}
+use Rattle.words.specs.Answer.{Res, need, or_else, ◌>>◌}
 use Rattle.codes.specs.Table.{range, lr_if}
 use Rattle.packed.specs.Packed.{fields, allowed, integers, amount, PF, EF}
 use Rattle.packed.specs.declared.Packed.{Packed}
@@ -86,3 +86,7 @@ unfoldable pub write_codes : ℕ → Res CodesOf
 write_codes w = do
   need (allowed (fields w)) Reserved
   Ok (written (fields w))
+
+-- what the code writer's answer counts as where bytes and lengths are owed: zeros if it is refused (RULES 4.19)
+abbrev pub codes_given : Res CodesOf → CodesOf
+codes_given c = or_else c (record { bytes = replicate 16 0; first = code_bytes 0; second = code_bytes 0 })

@@ -6,7 +6,7 @@ ghost use Rattle.std.specs.Prelude.{◌≡◌, ◌∷◌, ◌++◌, [], true, fa
 ghost use Rattle.words.specs.Bits.{bits as bits_of};
 ghost use Rattle.codes.specs.Table.{lr_if};
 ghost use Rattle.packed.specs.Packed.{Fit, fields as fields_of, amount as amount_of};
-ghost use Rattle.packed_codes.specs.PackedCodes.{when, up_code, vpop_code, up_to, pop_sized, pop_code, low, chain_code as spec_chain_code, first_list as spec_first_list, leave as leave_of, second_list as spec_second_list, written, write_codes as spec_write_codes};
+ghost use Rattle.packed_codes.specs.PackedCodes.{when, up_code, vpop_code, up_to, pop_sized, pop_code, low, chain_code as spec_chain_code, first_list as spec_first_list, leave as leave_of, second_list as spec_second_list, written, write_codes as spec_write_codes, codes_given as spec_codes_given};
 ghost use Rattle.packed_codes.specs.AsCoded.Out.{puts};
 
 use codes::list::from_r4;
@@ -45,7 +45,7 @@ fn chain_code(list: u32) -> u8
 }
 
 // Sixteen code bytes, written from the first on, and how many are written.
-#[derive(Drop)]
+#[derive(Clone, Copy)]
 struct Out {
     bytes: [u8; 16],
     len: usize,
@@ -258,4 +258,18 @@ pub fn write_codes(word: u32) -> Result<CodesOf, Refusal>
         return Ok(both_lists(word));
     }
     Err(Refusal::Reserved)
+}
+
+// What the code writer's answer counts as where bytes and lengths are owed: zeros if it is refused (RULES 4.19).
+pub fn codes_given(codes: Result<CodesOf, Refusal>) -> CodesOf
+    ensures { result ≡ spec_codes_given codes }
+{
+    match codes {
+        Ok(codes) => codes,
+        Err(_) => CodesOf {
+            bytes: [0u8; 16],
+            first: CodeBytes(0),
+            second: CodeBytes(0),
+        },
+    }
 }

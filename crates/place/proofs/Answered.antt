@@ -1,12 +1,12 @@
 -- The answer for a record by what reading it came to.
 -- Assumes nothing.
-use Rattle.std.specs.Prelude.{Ok, Err, Option, None, Some}
+use Rattle.std.specs.Prelude.{Ok, Err}
 use Prim.Native.Nat.{ℕ}
 use mathlib.Core.Path.{◌≡◌, refl, sym, ap, ◌∙◌}
 use mathlib.Core.List.{List}
 use native.Mathlib.Omega.{arith}
 use Rattle.words.specs.declared.Refusal.{Refusal}
-use Rattle.words.specs.Answer.{Res, verdict, maybe, ◌>>=◌}
+use Rattle.words.specs.Answer.{Res, verdict, ◌>>=◌}
 use Rattle.lent.specs.Lent.{lent}
 use Rattle.unwinding.specs.View.{view}
 use Rattle.codes.specs.Code.{size, codes_at}
@@ -14,20 +14,14 @@ use Rattle.record.specs.AsCoded.Plan.{shape_by, codes_in, read_of, read_shape}
 use Rattle.record.proofs.Shapes.{read-shape, read-given}
 use Rattle.record.specs.declared.Record.{Record}
 use Rattle.place.specs.Judged.{view_at}
-use Rattle.place.specs.AsCoded.Placed.{in_plan, placed_in}
-use Rattle.place.specs.declared.Placed.{Placed}
+use Rattle.place.specs.AsCoded.Placed.{placed_in}
 use Rattle.place.specs.declared.AnyPlaced.{AnyPlaced}
 
 -- the code bytes beside a place are its record's
 pub placed-codes :
-    (x : List ℕ) (r : Res Record) (o : ℕ) (q : AnyPlaced) → Ok (Some q) ≡ (r >>= λ f. placed_in x f o)
+    (x : List ℕ) (r : Res Record) (o : ℕ) (q : AnyPlaced) → Ok q ≡ (r >>= λ f. Ok (placed_in x f o))
     → (f : Record) × (r ≡ Ok f) × (q.codes ≡ f.codes)
-placed-codes x (Ok f) o q is = (f, refl, go (in_plan f.plan (codes_in f.codes x) x o) is)
-  where
-    go : (y : Res (Option Placed)) → Ok (Some q) ≡ (y >>= λ p. Ok (maybe p None (λ q. Some (record { at = q; codes = f.codes })))) → q.codes ≡ f.codes
-    go (Ok (Some p)) e = let w : q ≡ record { at = p; codes = f.codes } = cc in ap (λ q. q.codes) w
-    go (Ok None) e = absurd (let z : ◌≡◌ {A = ℕ} 0 1 = cc in omega arith)
-    go (Err r) e = absurd (let z : ◌≡◌ {A = ℕ} 0 1 = cc in omega arith)
+placed-codes x (Ok f) o q is = let w : q ≡ placed_in x f o = cc in (f, refl, ap (λ q. q.codes) w)
 placed-codes x (Err r) o q is = absurd (let z : ◌≡◌ {A = ℕ} 0 1 = cc in omega arith)
 
 -- 4 to 7 by what reading the record came to

@@ -10,20 +10,21 @@ use native.Mathlib.Omega.{arith}
 use Rattle.words.specs.declared.CodeBytes.{CodeBytes}
 use Rattle.words.specs.declared.Place.TheVariants.{Body}
 use Rattle.words.specs.declared.Refusal.{Refusal}
-use Rattle.words.specs.Answer.{Res, ◌>>=◌, maybe}
+use Rattle.words.specs.Answer.{Res, ◌>>=◌, either, maybe}
 use Rattle.unwinding.specs.CodeList.{Codes, total}
 use Rattle.unwinding.specs.declared.Scope.{Scope}
 use Rattle.codes.specs.declared.Code.{Code}
 use Rattle.reader.specs.declared.Ends.{Ends}
 use Rattle.codes.specs.Code.{size, scan, codes_at}
 use Rattle.reader.specs.AsCoded.Reading.{scanned}
-use Rattle.reader.proofs.Sizes.{scanned-ends, codes-end}
+use Rattle.reader.proofs.Sizes.{scanned-ends, codes-end, codes-refused}
 use Rattle.record.proofs.Shapes.{scopes-next}
 use Rattle.record.specs.AsCoded.Plan.{scope_in, scopes_from}
 use Rattle.record.specs.declared.Scopes.{Scopes}
 use Rattle.words.specs.Units.{code_bytes, halfwords, halfword_bytes}
 use Rattle.place.specs.AsCoded.Look.{list_size, measured, span_by, see, look_from, unseen, spot, in_scope, in_here, passed_by, passed}
 use Rattle.place.specs.declared.Seen.{Seen}
+use Rattle.place.specs.declared.Passed.{Passed}
 
 -- the size of a code list, by the pass over it
 pub measured-ends :
@@ -104,12 +105,18 @@ module _ (s x : List ℕ) (c : Scopes) (n span : ℕ) (f : Bool) (o : ℕ) where
   abbrev es : List Scope
   es = scopes_from c x 0 n
 
+  abbrev with : ℕ → Res Seen → Passed
+  with p k = record { prologue = p; seen = k }
+
   pub passed-made :
       (e : Ends) (p : ℕ) → scanned (scan s (code_bytes 0)) ≡ Ok e → p ≡ (if f then 0 else halfword_bytes (halfwords e.list))
-      → (look_from s span o 0 (unseen span p n) es >>= (λ seen. Ok (record { prologue = p; seen = seen }))) ≡ passed s span f es o
+      → record { prologue = p; seen = look_from s span o 0 (unseen span p n) es } ≡ passed s span f es o
   passed-made e p q z =
       let m = scanned-ends s (code_bytes 0) e q in
       let b : p ≡ (if f then 0 else total size (scan s (code_bytes 0)).list) = z ∙ ap (λ k. if f then 0 else k) (sym m.list-bytes) in
-      ap (λ l. look_from s span o 0 (unseen span p l) es >>= λ seen. Ok (record { prologue = p; seen = seen })) (sym (scopes-length c x 0 n))
-      ∙ ap (λ k. look_from s span o 0 (unseen span k (length es)) es >>= λ seen. Ok (record { prologue = k; seen = seen })) b
-      ∙ sym (ap (λ x. x >>= passed_by s span f es o) (codes-end s (code_bytes 0) e q))
+      ap (λ l. with p (look_from s span o 0 (unseen span p l) es)) (sym (scopes-length c x 0 n))
+      ∙ ap (λ k. with k (look_from s span o 0 (unseen span k (length es)) es)) b
+      ∙ sym (ap (λ x. either x (λ r. with 0 (Err r)) (passed_by s span f es o)) (codes-end s (code_bytes 0) e q))
+
+  pub passed-bad : (r : Refusal) → scanned (scan s (code_bytes 0)) ≡ Err r → record { prologue = 0; seen = Err r } ≡ passed s span f es o
+  passed-bad r q = sym (ap (λ x. either x (λ r. with 0 (Err r)) (passed_by s span f es o)) (codes-refused s (code_bytes 0) r q))

@@ -15,7 +15,7 @@ use Rattle.words.specs.declared.CodeBytes.{CodeBytes}
 use Rattle.words.specs.declared.Place.{Place}
 use Rattle.words.specs.declared.Place.TheVariants.{Prologue, Body, Epilogue}
 use Rattle.words.specs.declared.Refusal.TheVariants.{BadLayout, InsideInstruction, Conditional}
-use Rattle.words.specs.Answer.{Res, ◌>>=◌, ◌>>◌, need, maybe, or_else, verdict}
+use Rattle.words.specs.Answer.{Res, ◌>>=◌, ◌>>◌, need, either, maybe, or_else, verdict}
 use Rattle.unwinding.specs.CodeList.{Codes, total}
 use Rattle.unwinding.specs.Shape.{Shape, start_of}
 use Rattle.unwinding.specs.View.{EpilogueOf, View, stretch, fits, epilogues, view}
@@ -38,13 +38,13 @@ use Rattle.place.specs.declared.Spot.{Spot}
 abbrev pub todo_of : (codes : List ℕ) → Res Spot → Res (Todo Code)
 todo_of s x = x >>= λ p. Ok (record { place = p.place; codes = (scan s p.index).list })
 
--- what was seen, with the prologue
-abbrev pub with_seen : (prologue : ℕ) → Seen → Res Passed
-with_seen p seen = Ok (record { prologue = p; seen = seen })
+-- what was seen, or 6, with the prologue
+abbrev pub with_seen : (prologue : ℕ) → Res Seen → Passed
+with_seen p seen = record { prologue = p; seen = seen }
 
--- 7, by what the pass came to
-abbrev pub judged : Res Passed → Res (Unit {0})
-judged x = x >>= λ q. need q.seen.fits BadLayout
+-- 6 and 7, by what the pass came to
+abbrev pub judged : Passed → Res (Unit {0})
+judged q = q.seen >>= λ seen. need seen.fits BadLayout
 
 -- the epilogues as their codes make them, or 6
 spans : (codes : List ℕ) → (span : ℕ) → List Scope → Res (List EpilogueSpan)
@@ -158,7 +158,7 @@ module _ (sh : Shape) (o : ℕ) where
 
       all :
           (c : Codes Code) (y : Res (List EpilogueSpan))
-          → judged ((y >>= λ ws. Ok (seen_all sh.span o 0 (unseen sh.span (prologue_of sh.fragment c) (length sh.scopes)) ws)) >>= with_seen (prologue_of sh.fragment c))
+          → judged (with_seen (prologue_of sh.fragment c) (y >>= λ ws. Ok (seen_all sh.span o 0 (unseen sh.span (prologue_of sh.fragment c) (length sh.scopes)) ws)))
           ≡ verdict {A = View Code} ((y >>= λ ws. Ok (map (span_epilogue sh.codes) ws)) >>= λ es. need (fits sh.span (prologue_of sh.fragment c) es) BadLayout >> Ok (record { codes = c; prologue = prologue_of sh.fragment c; epilogues = es }))
       all c (Err r) = refl
       all c (Ok ws) =
@@ -168,7 +168,7 @@ module _ (sh : Shape) (o : ℕ) where
 
       go :
           (x : Res ℕ)
-          → judged ((x >>= λ n. Ok (first n)) >>= passed_by sh.codes sh.span sh.fragment sh.scopes o)
+          → judged (either (x >>= λ n. Ok (first n)) (λ r. with_seen 0 (Err r)) (passed_by sh.codes sh.span sh.fragment sh.scopes o))
           ≡ verdict {A = View Code} ((x >>= λ n. Ok (first n)) >>= λ c. epilogues size codes_at sh sh.scopes >>= λ es. need (fits sh.span (prologue_of sh.fragment c) es) BadLayout >> Ok (record { codes = c; prologue = prologue_of sh.fragment c; epilogues = es }))
       go (Err r) = refl
       go (Ok n) =
@@ -314,7 +314,7 @@ module _ (s : List ℕ) (span o p : ℕ) (es : List Scope) (ws : List EpilogueSp
       ∙ ap (in_hit s o) (seen-hit span o 0 (unseen span p (length es)) ws l.1 n)
 
   passed-spot :
-      in_seen s span es o (record { prologue = p; seen = final })
+      in_seen s span es o (record { prologue = p; seen = Ok final })
       ≡ (if final.fits then (if ltb o p then skipped s Prologue (code_bytes 0) (p - o) else in_hit s o (hit o ws)) else Err BadLayout)
   passed-spot = go final.fits refl
     where
@@ -449,7 +449,7 @@ module _ (sh : Shape) (o : ℕ) where
       all :
           (n : ℕ) (y : Res (List EpilogueSpan)) → spans s sh.span sh.scopes ≡ y
           → (((y >>= λ ws. Ok (map (span_epilogue s) ws)) >>= λ es. need (fits sh.span (prologue_of sh.fragment (first n)) es) BadLayout >> Ok (record { codes = first n; prologue = prologue_of sh.fragment (first n); epilogues = es })) >>= λ v. todo size executing v o)
-          ≡ todo_of s ((y >>= λ ws. Ok (seen_all sh.span o 0 (unseen sh.span (prologue_of sh.fragment (first n)) (length sh.scopes)) ws)) >>= with_seen (prologue_of sh.fragment (first n)) >>= in_seen s sh.span sh.scopes o)
+          ≡ todo_of s (in_seen s sh.span sh.scopes o (with_seen (prologue_of sh.fragment (first n)) (y >>= λ ws. Ok (seen_all sh.span o 0 (unseen sh.span (prologue_of sh.fragment (first n)) (length sh.scopes)) ws))))
       all n (Err r) q = refl
       all n (Ok ws) q =
           let p = prologue_of sh.fragment (first n) in
@@ -460,7 +460,7 @@ module _ (sh : Shape) (o : ℕ) where
       go :
           (x : Res ℕ)
           → (((x >>= λ n. Ok (first n)) >>= λ c. epilogues size codes_at sh sh.scopes >>= λ es. need (fits sh.span (prologue_of sh.fragment c) es) BadLayout >> Ok (record { codes = c; prologue = prologue_of sh.fragment c; epilogues = es })) >>= λ v. todo size executing v o)
-          ≡ todo_of s ((x >>= λ n. Ok (first n)) >>= passed_by s sh.span sh.fragment sh.scopes o >>= in_seen s sh.span sh.scopes o)
+          ≡ todo_of s (in_seen s sh.span sh.scopes o (either (x >>= λ n. Ok (first n)) (λ r. with_seen 0 (Err r)) (passed_by s sh.span sh.fragment sh.scopes o)))
       go (Err r) = refl
       go (Ok n) =
           rw
@@ -505,7 +505,7 @@ spot-ends s span f scopes o = go (scan s (code_bytes 0)).ending refl
 
     all :
         (n p : ℕ) (y : Res (List EpilogueSpan)) → spans s span scopes ≡ y → (scan s (code_bytes 0)).ending ≡ Ok n
-        → Ended s ((y >>= λ ws. Ok (seen_all span o 0 (unseen span p (length scopes)) ws)) >>= with_seen p >>= in_seen s span scopes o)
+        → Ended s (in_seen s span scopes o (with_seen p (y >>= λ ws. Ok (seen_all span o 0 (unseen span p (length scopes)) ws))))
     all n p (Err r) q e = tt
     all n p (Ok ws) q e =
         subst (Ended s) (sym (passed-spot s span o p scopes ws q))
@@ -513,8 +513,8 @@ spot-ends s span f scopes o = go (scan s (code_bytes 0)).ending refl
 
     go :
         (x : Res ℕ) → (scan s (code_bytes 0)).ending ≡ x
-        → Ended s ((x >>= λ n. Ok (whole n)) >>= passed_by s span f scopes o >>= in_seen s span scopes o)
+        → Ended s (in_seen s span scopes o (either (x >>= λ n. Ok (whole n)) (λ r. with_seen 0 (Err r)) (passed_by s span f scopes o)))
     go (Err r) e = tt
     go (Ok n) e =
-        subst (λ l. Ended s (l >>= with_seen (prologue_of f (whole n)) >>= in_seen s span scopes o)) (sym (look-spans s span o 0 (unseen span (prologue_of f (whole n)) (length scopes)) scopes))
+        subst (λ l. Ended s (in_seen s span scopes o (with_seen (prologue_of f (whole n)) l))) (sym (look-spans s span o 0 (unseen span (prologue_of f (whole n)) (length scopes)) scopes))
         (all n (prologue_of f (whole n)) (spans s span scopes) refl e)

@@ -175,16 +175,23 @@ fn prologue_of(fragment: bool, list: u64) -> u64
 }
 
 // The prologue and the epilogues of a record. The code list at index 0 is scanned once for both.
-pub fn pass(t: &RowTable, codes: &[u8], plan: Plan, xdata: &[u8], o: u64) -> Result<Passed, Refusal>
+pub fn pass(t: &RowTable, codes: &[u8], plan: Plan, xdata: &[u8], o: u64) -> Passed
     requires { Ready codes.now plan xdata.now }
     ensures { result ≡ passed codes.now plan.span plan.fragment (scopes_from plan.scopes xdata.now 0 plan.count) o }
 {
-    let found = reader::scan(t, codes, CodeBytes(0))?;
-    let p = prologue_of(plan.fragment, found.list);
-    let first = bytes_of(found.list + found.end);
-    let none = unseen(span_of(plan), p, plan.count);
-    let seen = look(t, codes, plan, xdata, o, none, first)?;
-    Ok(Passed { prologue: p, seen })
+    match reader::scan(t, codes, CodeBytes(0)) {
+        Ok(found) => {
+            let p = prologue_of(plan.fragment, found.list);
+            let first = bytes_of(found.list + found.end);
+            let none = unseen(span_of(plan), p, plan.count);
+            let seen = look(t, codes, plan, xdata, o, none, first);
+            Passed { prologue: p, seen }
+        }
+        Err(why) => Passed {
+            prologue: 0,
+            seen: Err(why),
+        },
+    }
 }
 
 // 6 and 7 for a record's plan and code bytes. They are the same for each offset of the pass.
@@ -192,8 +199,9 @@ pub fn judge(t: &RowTable, codes: &[u8], plan: Plan, xdata: &[u8]) -> Result<(),
     requires { Ready codes.now plan xdata.now }
     ensures { result ≡ verdict (view size codes_at (shape_by plan codes.now xdata.now)) }
 {
-    let q = pass(t, codes, plan, xdata, 0)?;
-    if q.seen.fits {
+    let q = pass(t, codes, plan, xdata, 0);
+    let seen = q.seen?;
+    if seen.fits {
         Ok(())
     } else {
         Err(Refusal::BadLayout)

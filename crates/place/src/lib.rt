@@ -4,7 +4,7 @@
 
 pub mod layout; // the epilogues of a record in one pass
 
-ghost use Rattle.std.specs.Prelude.{◌≡◌, ◌-◌, ◌^◌, ◌≤◌, ◌<◌, length};
+ghost use Rattle.std.specs.Prelude.{◌≡◌, ◌-◌, ◌^◌, ◌≤◌, ◌<◌, ltb, length, if◌then◌else◌};
 ghost use Rattle.words.specs.Units.{code_bytes};
 ghost use Rattle.reader.specs.AsCoded.Skip.{skip_at};
 ghost use Rattle.record.specs.AsCoded.Plan.{scopes_from};
@@ -38,11 +38,11 @@ pub struct Seen {
     pub at: usize,
 }
 
-// The bytes of a record's prologue, and what a pass over its epilogues saw.
+// The bytes of a record's prologue, and what a pass over its epilogues saw, or 6. The prologue has 0 where its own codes are refused.
 #[derive(Clone, Copy)]
 pub struct Passed {
     pub prologue: u64,
-    pub seen: Seen,
+    pub seen: Result<Seen, Refusal>,
 }
 
 // A place, and the index of the first code that runs there.
@@ -61,10 +61,13 @@ pub struct Placed {
     pub handler: u32,
 }
 
-// The same with the record's code bytes.
+// Where an offset stands in a record that was read (RULES 5.2): whether its function covers it, its handler then (0 if there is none), its
+// code bytes, and its place or the refusal (6, 7, 9, 10).
 #[derive(Clone, Copy)]
 pub struct AnyPlaced {
-    pub at: Placed,
+    pub at: Result<Option<Placed>, Refusal>,
+    pub covers: bool,
+    pub handler: u32,
     pub codes: Codes,
 }
 
@@ -150,7 +153,7 @@ fn in_seen(
     requires { Ready codes.now plan xdata.now }
     ensures { result ≡ spec_in_seen codes.now plan.span (scopes_from plan.scopes xdata.now 0 plan.count) o q }
 {
-    let seen = q.seen;
+    let seen = q.seen?;
     if !seen.fits {
         return Err(Refusal::BadLayout);
     }
@@ -165,7 +168,7 @@ fn spot_in(t: &RowTable, codes: &[u8], plan: Plan, xdata: &[u8], o: u64) -> Resu
     requires { Ready codes.now plan xdata.now }
     ensures { result ≡ spot_of codes.now plan.span plan.fragment (scopes_from plan.scopes xdata.now 0 plan.count) o }
 {
-    let q = layout::pass(t, codes, plan, xdata, o)?;
+    let q = layout::pass(t, codes, plan, xdata, o);
     in_seen(t, codes, plan, xdata, o, q)
 }
 
@@ -191,23 +194,28 @@ fn in_plan(
     Ok(None)
 }
 
-// Where an offset stands in the record that word 1 of a .pdata record names; none where its function does not cover the offset. The table
-// of codes is lent.
-pub fn at(
-    t: &RowTable,
-    rva: u32,
-    xdata: &[u8],
-    word: u32,
-    o: u64,
-) -> Result<Option<AnyPlaced>, Refusal>
+// A place or a refusal, with what is told beside either.
+fn any_of(plan: Plan, codes: Codes, o: u64, at: Result<Option<Placed>, Refusal>) -> AnyPlaced
+    ensures { result ≡ (record { at = at; covers = ltb o plan.span; handler = if ltb o plan.span then plan.handler else 0; codes = codes }) }
+{
+    let covers = o < plan.span as u64;
+    let handler = if covers { plan.handler } else { 0 };
+    AnyPlaced {
+        at,
+        covers,
+        handler,
+        codes,
+    }
+}
+
+// Where an offset stands in the record that word 1 of a .pdata record names; 4 or 5 where it is not read. The table of codes is lent.
+pub fn at(t: &RowTable, rva: u32, xdata: &[u8], word: u32, o: u64) -> Result<AnyPlaced, Refusal>
     ensures { result ≡ any_placed (lent rva xdata.now) word o }
 {
     let f = record::read(rva, xdata, word)?;
     let codes = f.codes;
-    match in_plan(t, codes.of(xdata), f.plan, xdata, o)? {
-        Some(at) => Ok(Some(AnyPlaced { at, codes })),
-        None => Ok(None),
-    }
+    let at = in_plan(t, codes.of(xdata), f.plan, xdata, o);
+    Ok(any_of(f.plan, codes, o, at))
 }
 
 // 4 to 7 for word 1 of a .pdata record, without a pc.

@@ -6,7 +6,7 @@ ghost use Rattle.lent.specs.Lent.{lent};
 ghost use Rattle.regions.specs.Region.{region_from, region_in, regions_from, upright as upright_of, overlaps as overlaps_of, cross as cross_of, clear, sound as sound_of};
 ghost use Rattle.regions.specs.declared.RegionRefusal.TheVariants.{Record};
 ghost use Rattle.regions.specs.Table.{region_number, table_lent as spec_table_lent};
-ghost use Rattle.regions.specs.AsCoded.Table.{sound_table as spec_sound_table, table_read as spec_table_read, table_after as spec_table_after, table_of};
+ghost use Rattle.regions.specs.AsCoded.Table.{sound_table as spec_sound_table, table_read as spec_table_read, table_after as spec_table_after, table_of, regions_given as spec_regions_given};
 
 use words::Refusal;
 
@@ -202,4 +202,14 @@ pub fn table(rva: u32, xdata: &[u8], at: u32) -> Result<Regions, RegionRefusal>
 {
     let bytes = xdata::xdata_size(rva, xdata, at)?;
     table_after(rva, xdata, at - at % 4, bytes)
+}
+
+// What a table counts as where its numbers are owed: zeros if it is refused (RULES 9.57).
+pub fn regions_given(table: Result<Regions, RegionRefusal>) -> Regions
+    ensures { result ≡ spec_regions_given table }
+{
+    match table {
+        Ok(regions) => regions,
+        Err(_) => Regions { first: 0, count: 0 },
+    }
 }

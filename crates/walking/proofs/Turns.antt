@@ -19,7 +19,7 @@ use Rattle.walking.specs.declared.Stop.{Stop}
 use Rattle.walking.specs.declared.Turn.{Turn}
 use Rattle.walking.specs.Walk.{arm, frames, next_frame}
 use Rattle.walking.specs.AsCoded.Turn.{state, turned}
-use Rattle.walking.specs.AsCoded.InPlace.{stands}
+use Rattle.walking.specs.AsCoded.InPlace.{stands, halted_at}
 
 pub bounded : (t : Inputs) → Bounded arm (frames t) 1020
 bounded t = record { up = λ first g c e. frame-sp first t g c e; few = λ first g c e. frame-codes first t g c e }
@@ -27,6 +27,10 @@ bounded t = record { up = λ first g c e. frame-sp first t g c e; few = λ first
 pub came-codes : (t : Inputs) (s : Standing) (r d : List ℕ) (u : Came) (a b : List ℕ)
     → came_to (Ok u) a b ≡ next_frame (eqb s.frames 0) t (stands s r d).at → u.codes ≤ 1020
 came-codes t s r d u a b is = next-few arm (frames t) 1020 (bounded t) _ (stands s r d).at (caller_by u a b) (sym is)
+
+-- the frame at which a turn stops is that of the walk's turn, whatever the lent lists hold
+pub halted-frame : (s : Standing) (r d : List ℕ) (z : Stop) → halted_at s ≡ (General.halted arm (stands s r d) z).frame
+halted-frame s r d z = refl
 
 -- what a turn that goes on was, and one that does not
 module _ (k : Checked) (y : General.Turn arm) where

@@ -7,7 +7,7 @@ ghost use Rattle.walking.specs.Walk.{next_frame as spec_next_frame, walk as walk
 ghost use Rattle.machine.specs.AsCoded.Answers.{regs};
 ghost use Rattle.frame.specs.AsCoded.InPlace.{came_to};
 ghost use Rattle.walking.specs.AsCoded.Turn.{begun, turn_of, Small};
-ghost use Rattle.walking.specs.AsCoded.InPlace.{stands, gone_in, SmallIn, Goes};
+ghost use Rattle.walking.specs.AsCoded.InPlace.{stands, gone_in, halted_at as spec_halted_at, SmallIn, Goes};
 
 use codes::RowTable;
 use frame::Came;
@@ -92,6 +92,17 @@ pub fn stand(g: Regs, end: bool, frames: usize, codes: usize) -> Standing
         end,
         frames,
         codes,
+    }
+}
+
+// The frame at which a turn stops the walk (RULES 7.5): its pc with bit 0 cleared, its SP, and place leaf, since it was not unwound.
+pub fn halted_at(s: Standing) -> Frame
+    ensures { result ≡ spec_halted_at s }
+{
+    Frame {
+        pc: words::even(s.pc),
+        sp: s.sp,
+        place: Place::Leaf,
     }
 }
 

@@ -10,7 +10,7 @@ use Rattle.words.specs.Bits.{bits, bit}
 use Rattle.lent.specs.Lent.{Lent, end, holds, word_at}
 use Rattle.words.specs.Units.{halfwords, halfword_bytes, code_word_bytes}
 use Rattle.words.specs.declared.Refusal.TheVariants.{UnfitInput, Reserved, OutsideXdata}
-use Rattle.words.specs.Answer.{Res, need, ◌>>=◌, ◌>>◌}
+use Rattle.words.specs.Answer.{Res, need, or_else, ◌>>=◌, ◌>>◌}
 use Rattle.xdata.specs.declared.Head.{Head}
 
 -- what 1 asks of the .xdata (RULES 9.1)
@@ -70,6 +70,10 @@ xdata_size x a = do
   need (fit_xdata x) UnfitInput
   h ← head_at x (a - a % 4)
   Ok (record_bytes h)
+
+-- what a size counts as where a number is owed: 0 if it is refused (RULES 2.13)
+abbrev pub size_given : Res ℕ → ℕ
+size_given s = or_else s 0
 
 -- the function's length in bytes (RULES 2.7); the handler's RVA, 0 if there is no word of it (RULES 2.12)
 abbrev pub span_of : (word : ℕ) → ℕ

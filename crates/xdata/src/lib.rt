@@ -3,7 +3,7 @@
 
 ghost use Rattle.std.specs.Prelude.{◌≡◌, ◌+◌, ◌*◌, ◌<◌, ◌≤◌, length};
 ghost use Rattle.lent.specs.Lent.{lent};
-ghost use Rattle.xdata.specs.Xdata.{fit_xdata, handled as handled_of, X, E, F, scope_count as spec_scope_count, codes_offset as spec_codes_offset, handler_offset as spec_handler_offset, record_bytes as spec_record_bytes, short_head as spec_short_head, head_at as spec_head_at, xdata_size as spec_xdata_size, span_of, handler_at};
+ghost use Rattle.xdata.specs.Xdata.{fit_xdata, handled as handled_of, X, E, F, scope_count as spec_scope_count, codes_offset as spec_codes_offset, handler_offset as spec_handler_offset, record_bytes as spec_record_bytes, short_head as spec_short_head, head_at as spec_head_at, xdata_size as spec_xdata_size, size_given as spec_size_given, span_of, handler_at};
 ghost use Rattle.xdata.specs.AsCoded.Heads.{whole_record as spec_whole_record, long_record};
 ghost use Rattle.xdata.specs.Scopes.{scope_of as spec_scope_of};
 ghost use Rattle.xdata.specs.AsCoded.Scopes.{res_zero as spec_res_zero};
@@ -159,6 +159,13 @@ pub fn xdata_size(rva: u32, xdata: &[u8], at: u32) -> Result<u32, Refusal>
     }
     let head = head_at(rva, xdata, at - at % 4)?;
     Ok(record_bytes(head) as u32)
+}
+
+// What a size counts as where a number is owed: 0 if it is refused (RULES 2.13).
+pub fn size_given(size: Result<u32, Refusal>) -> u32
+    ensures { result ≡ spec_size_given size }
+{
+    size.unwrap_or(0)
 }
 
 // The function's length in bytes.

@@ -8,8 +8,8 @@ of-requires c =
     let a = c.args in
     read-inside a.rva a.xdata.now a.word c.in_ok-f.f (sym c.in_ok-f.ensures)
 
-pub in_plan-requires : goal.in_plan-requires
-in_plan-requires c =
+pub in_plan-at-requires : goal.in_plan-at-requires
+in_plan-at-requires c =
     let a = c.args in
     let x = a.xdata.now in
     let f = c.in_ok-f.f in

@@ -1,13 +1,13 @@
 -- Where an offset stands in a record, as one pass over the record finds it: the epilogues in turn, with what refusal 7 asks of them and
 -- the number of the one that the offset falls into; then the place and the index at which the codes that run there begin. That this is
 -- what `view` and `todo` say is a law (proofs/Placing.antt).
-use Rattle.std.specs.Prelude.{ℕ, ◌+◌, ◌-◌, ◌≤◌, ◌≡◌, List, [], ◌∷◌, Bool, ◌&&◌, leb, ltb, length, if◌then◌else◌, Option, Ok, Err, slice_get}
+use Rattle.std.specs.Prelude.{ℕ, ◌+◌, ◌-◌, ◌≤◌, List, [], ◌∷◌, Bool, ◌&&◌, leb, ltb, length, if◌then◌else◌, Option, Ok, Err, slice_get}
 use Rattle.words.specs.declared.CodeBytes.{CodeBytes}
 use Rattle.words.specs.declared.Place.{Place}
 use Rattle.words.specs.declared.Place.TheVariants.{Prologue, Body, Epilogue}
 use Rattle.words.specs.declared.Refusal.TheVariants.{BadLayout, InsideInstruction, Conditional}
 use Rattle.words.specs.Units.{code_bytes}
-use Rattle.words.specs.Answer.{Res, ◌>>=◌, ◌>>◌, need, maybe}
+use Rattle.words.specs.Answer.{Res, ◌>>=◌, ◌>>◌, need, either, maybe}
 use Rattle.unwinding.specs.CodeList.{Codes, total}
 use Rattle.unwinding.specs.Shape.{start_of}
 use Rattle.unwinding.specs.View.{Stretch}
@@ -92,21 +92,23 @@ in_here s span scopes o k = maybe (slice_get scopes k) (Ok (spot Body (code_byte
 -- 7, and then the place (RULES 5.6)
 abbrev pub in_seen : (codes : List ℕ) → (span : ℕ) → List Scope → (offset : ℕ) → Passed → Res Spot
 in_seen s span scopes o q =
-    if q.seen.fits
-    then (if ltb o q.prologue then skipped s Prologue (code_bytes 0) (q.prologue - o) else in_here s span scopes o q.seen.at)
+    q.seen >>= λ seen.
+    if seen.fits
+    then (if ltb o q.prologue then skipped s Prologue (code_bytes 0) (q.prologue - o) else in_here s span scopes o seen.at)
     else Err BadLayout
 
 -- the prologue's size (RULES 5.3)
 abbrev pub prologue_of : (fragment : Bool) → Codes Code → ℕ
 prologue_of f c = if f then 0 else total size c.list
 
--- the prologue and the epilogues, once the codes from index 0 are read
-abbrev pub passed_by : (codes : List ℕ) → (span : ℕ) → (fragment : Bool) → List Scope → (offset : ℕ) → Codes Code → Res Passed
+-- the prologue and the epilogues, once the codes from index 0 are read; the prologue stands beside an epilogue's 6 too
+abbrev pub passed_by : (codes : List ℕ) → (span : ℕ) → (fragment : Bool) → List Scope → (offset : ℕ) → Codes Code → Passed
 passed_by s span f scopes o c =
-    look_from s span o 0 (unseen span (prologue_of f c) (length scopes)) scopes >>= λ seen. Ok (record { prologue = prologue_of f c; seen = seen })
+    record { prologue = prologue_of f c; seen = look_from s span o 0 (unseen span (prologue_of f c) (length scopes)) scopes }
 
-abbrev pub passed : (codes : List ℕ) → (span : ℕ) → (fragment : Bool) → List Scope → (offset : ℕ) → Res Passed
-passed s span f scopes o = codes_at s (code_bytes 0) >>= passed_by s span f scopes o
+abbrev pub passed : (codes : List ℕ) → (span : ℕ) → (fragment : Bool) → List Scope → (offset : ℕ) → Passed
+passed s span f scopes o =
+    either (codes_at s (code_bytes 0)) (λ r. record { prologue = 0; seen = Err r }) (passed_by s span f scopes o)
 
 unfoldable pub spot_of : (codes : List ℕ) → (span : ℕ) → (fragment : Bool) → List Scope → (offset : ℕ) → Res Spot
-spot_of s span f scopes o = passed s span f scopes o >>= in_seen s span scopes o
+spot_of s span f scopes o = in_seen s span scopes o (passed s span f scopes o)

@@ -2,7 +2,7 @@
 -- (frame/proofs/Records.antt).
 use Rattle.std.specs.Prelude.{ℕ, List, ltb, if◌then◌else◌, Option, Some, None, Ok}
 use Rattle.lent.specs.Lent.{Lent}
-use Rattle.words.specs.Answer.{Res, ◌>>=◌, maybe}
+use Rattle.words.specs.Answer.{Res, ◌>>=◌}
 use Rattle.record.specs.AsCoded.Plan.{scopes_from, read_of, codes_in}
 use Rattle.record.specs.declared.Plan.{Plan}
 use Rattle.record.specs.declared.Record.{Record}
@@ -21,10 +21,11 @@ spot_in p s x o = spot_of s p.span p.fragment (scopes_from p.scopes x 0 p.count)
 abbrev pub in_plan : Plan → (codes xdata : List ℕ) → (offset : ℕ) → Res (Option Placed)
 in_plan p s x o = if ltb o p.span then (spot_in p s x o >>= λ q. Ok (covered p.handler q)) else Ok None
 
--- with the record's code bytes
-abbrev pub placed_in : (xdata : List ℕ) → Record → (offset : ℕ) → Res (Option AnyPlaced)
-placed_in x f o = in_plan f.plan (codes_in f.codes x) x o >>= λ p. Ok (maybe p None (λ q. Some (record { at = q; codes = f.codes })))
+-- by a record that was read, with what is told beside a refusal too
+abbrev pub placed_in : (xdata : List ℕ) → Record → (offset : ℕ) → AnyPlaced
+placed_in x f o =
+    record { at = in_plan f.plan (codes_in f.codes x) x o; covers = ltb o f.plan.span; handler = if ltb o f.plan.span then f.plan.handler else 0; codes = f.codes }
 
 -- by word 1 of a .pdata record
-abbrev pub any_placed : Lent → (word offset : ℕ) → Res (Option AnyPlaced)
-any_placed x w o = read_of x w >>= λ f. placed_in x.bytes f o
+abbrev pub any_placed : Lent → (word offset : ℕ) → Res AnyPlaced
+any_placed x w o = read_of x w >>= λ f. Ok (placed_in x.bytes f o)

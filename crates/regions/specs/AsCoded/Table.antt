@@ -25,6 +25,11 @@ table_after x a n = if handled (word_at x a) then table_read x (a + n) else tabl
 unfoldable pub table_of : Lent → (at : ℕ) → Result Regions RegionRefusal
 table_of x a = either (xdata_size x a) (λ r. Err (Record r)) (λ n. table_after x (a - a % 4) n)
 
+-- what a table counts as where its numbers are owed: zeros if it is refused (RULES 9.57)
+abbrev pub regions_given : Result Regions RegionRefusal → Regions
+regions_given (Ok t) = t
+regions_given (Err r) = record { first = 0; count = 0 }
+
 -- the regions that such a table names
 abbrev pub listed_in : List ℕ → Result Regions RegionRefusal → Listed
 listed_in s (Ok t) = listed (regions_from s t.first 0 t.count)

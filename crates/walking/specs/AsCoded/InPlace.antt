@@ -2,6 +2,7 @@
 -- law there; that these are those turns is what the contracts say.
 use Rattle.std.specs.Prelude.{ℕ, ◌+◌, ◌≡◌, List, true, eqb, Result, Ok, Err}
 use Rattle.words.specs.Bits.{even}
+use Rattle.words.specs.declared.Place.TheVariants.{Leaf}
 use Rattle.unwinding.specs.AsCoded.Turn as General
 use Rattle.machine.specs.AsCoded.Answers.{regs}
 use Rattle.frame.specs.declared.Came.{Came}
@@ -10,6 +11,7 @@ use Rattle.walking.specs.declared.Stop.{Stop}
 use Rattle.walking.specs.declared.Stop.TheVariants.{Full}
 use Rattle.walking.specs.declared.Standing.{Standing}
 use Rattle.walking.specs.declared.Going.{Going}
+use Rattle.walking.specs.declared.Frame.{Frame}
 use Rattle.walking.specs.Walk.{arm, frames}
 
 -- where a walk stands, with the lists as they stand
@@ -26,6 +28,10 @@ gone_in s u = record {
 -- at most 1,020 codes run in a frame
 abbrev pub SmallIn : General.Standing arm → Type 0
 SmallIn s = General.Small arm 1020 s
+
+-- the frame at which a turn that does not go on stops
+abbrev pub halted_at : Standing → Frame
+halted_at s = record { pc = even s.pc; sp = s.sp; place = Leaf }
 
 -- a turn in place as the walk's: it goes on, with the lists as they then stand, or stops, and they do not count
 abbrev pub turning_in : General.Standing arm → Result Going Stop → (r d : List ℕ) → General.Turn arm

@@ -2,51 +2,44 @@
 -- Assumes nothing.
 use mathlib.Core.Path.{sym, ap, ◌∙◌}
 use native.Mathlib.Omega.{arith}
-use Rattle.std.proofs.lemmas.Result.{err_from_is_err_and}
 use Rattle.words.specs.Units.{code_bytes}
-use Rattle.words.specs.Answer.{◌>>=◌}
 use Rattle.reader.proofs.Sizes.{scanned-ends}
 use Rattle.record.specs.AsCoded.Plan.{scopes_from}
 use Rattle.place.specs.AsCoded.Look.{look_from, unseen}
-use Rattle.place.proofs.Looking.{measured-ends, passed-made}
+use Rattle.place.proofs.Looking.{measured-ends, passed-made, passed-bad}
 use Rattle.place.proofs.Placing.{with_seen}
 use Rattle.place.proofs.layout.pass.Goals as goal
 
 pub prologue_of-p-requires : goal.prologue_of-p-requires
 prologue_of-p-requires c =
     let a = c.args in
-    omega (arith, (scanned-ends a.codes.now (code_bytes 0) _ (sym c.in_ok-found.ensures)).few, c.requires.0)
+    omega (arith, (scanned-ends a.codes.now (code_bytes 0) _ (sym c.in-Ok.ensures)).few, c.requires.0)
 
 pub overflow_add-found : goal.overflow_add-found
 overflow_add-found c =
     let a = c.args in
-    omega (arith, (scanned-ends a.codes.now (code_bytes 0) _ (sym c.in_ok-found.ensures)).few, c.requires.0)
+    omega (arith, (scanned-ends a.codes.now (code_bytes 0) _ (sym c.in-Ok.ensures)).few, c.requires.0)
 
 pub bytes_of-first-requires : goal.bytes_of-first-requires
 bytes_of-first-requires c =
     let a = c.args in
-    omega (arith, (scanned-ends a.codes.now (code_bytes 0) _ (sym c.in_ok-found.ensures)).few, c.requires.0)
+    omega (arith, (scanned-ends a.codes.now (code_bytes 0) _ (sym c.in-Ok.ensures)).few, c.requires.0)
 
-pub look-requires : goal.look-requires
-look-requires c =
+pub look-seen-requires : goal.look-seen-requires
+look-seen-requires c =
     let s = c.args.codes.now in
-    let q = sym c.in_ok-found.ensures in
+    let q = sym c.in-Ok.ensures in
     (c.requires, measured-ends s (code_bytes 0) _ _ q c.bytes_of-first.ensures, omega (arith, (scanned-ends s (code_bytes 0) _ q).few, c.requires.0, c.bytes_of-first.ensures))
 
-pub returns-in_err-seen : goal.returns-in_err-seen
-returns-in_err-seen c =
+pub returns-in-Ok : goal.returns-in-Ok
+returns-in-Ok c =
     let a = c.args in
     let n = c.prologue_of-p.result in
     let es = scopes_from a.plan.scopes a.xdata.now 0 a.plan.count in
-    let p = err_from_is_err_and c.from_residual-in_err-seen.result c.from_residual-in_err-seen.ensures.1 in
-    rw (p.1, p.2)
-    (ap (λ x. x >>= with_seen n) (c.in_err-seen.ensures ∙ ap (λ k. look_from a.codes.now a.plan.span a.o 0 k es) (c.unseen-none.ensures ∙ ap (λ m. unseen m n a.plan.count) c.span_of.ensures.0))
-    ∙ passed-made a.codes.now a.xdata.now a.plan.scopes a.plan.count a.plan.span a.plan.fragment a.o _ n (sym c.in_ok-found.ensures) c.prologue_of-p.ensures)
+    ap (with_seen n) (c.look-seen.ensures ∙ ap (λ k. look_from a.codes.now a.plan.span a.o 0 k es) (c.unseen-none.ensures ∙ ap (λ m. unseen m n a.plan.count) c.span_of.ensures.0))
+    ∙ passed-made a.codes.now a.xdata.now a.plan.scopes a.plan.count a.plan.span a.plan.fragment a.o _ n (sym c.in-Ok.ensures) c.prologue_of-p.ensures
 
-pub returns : goal.returns
-returns c =
+pub returns-in-Err : goal.returns-in-Err
+returns-in-Err c =
     let a = c.args in
-    let n = c.prologue_of-p.result in
-    let es = scopes_from a.plan.scopes a.xdata.now 0 a.plan.count in
-    ap (λ x. x >>= with_seen n) (c.in_ok-seen.ensures ∙ ap (λ k. look_from a.codes.now a.plan.span a.o 0 k es) (c.unseen-none.ensures ∙ ap (λ m. unseen m n a.plan.count) c.span_of.ensures.0))
-    ∙ passed-made a.codes.now a.xdata.now a.plan.scopes a.plan.count a.plan.span a.plan.fragment a.o _ n (sym c.in_ok-found.ensures) c.prologue_of-p.ensures
+    passed-bad a.codes.now a.xdata.now a.plan.scopes a.plan.count a.plan.span a.plan.fragment a.o _ (sym c.in-Err.ensures)
